@@ -1,0 +1,57 @@
+ghost use Rattle.std.specs.Prelude.{◌≡◌, [], decimal, IsOk};
+ghost use Rattle.tor_edge.specs.Written.{Wrote};
+ghost use Rattle.tor_edge.specs.Pieces.{piece_text, text_of};
+
+use crate::{PutFault, Sink};
+
+/// A part of a text that is put at one go.
+#[derive(Debug, Clone, Copy)]
+pub enum Piece<'a> {
+    Text(&'a str),
+    Number(u64),
+}
+
+/// Writes the bytes, and calls nothing where there are none.
+pub fn put_bytes<S: Sink>(sink: &mut S, piece: &[u8]) -> Result<(), PutFault>
+    ensures wrote { Wrote S.faults S.written sink.old sink.new piece.now result }
+    ensures nothing { piece.now ≡ [] → IsOk result × (sink.new ≡ sink.old) }
+{
+    if piece.is_empty() {
+        return Ok(());
+    }
+    sink.put(piece)
+}
+
+/// Writes the text's UTF-8.
+pub fn put_text<S: Sink>(sink: &mut S, text: &str) -> Result<(), PutFault>
+    ensures wrote { Wrote S.faults S.written sink.old sink.new text.now result }
+    ensures nothing { text.now ≡ [] → IsOk result × (sink.new ≡ sink.old) }
+{
+    put_bytes(sink, text.as_bytes())
+}
+
+/// Writes the number in decimal digits, without leading zeros.
+pub fn put_number<S: Sink>(sink: &mut S, value: u64) -> Result<(), PutFault>
+    ensures { Wrote S.faults S.written sink.old sink.new (decimal value) result }
+{
+    put_text(sink, itoa::Buffer::new().format(value))
+}
+
+/// Writes the pieces one after another, up to the first fault.
+pub fn put_pieces<S: Sink>(sink: &mut S, pieces: &[Piece<'_>]) -> Result<(), PutFault>
+    ensures { Wrote S.faults S.written sink.old sink.new (text_of pieces.now) result }
+{
+    for piece in pieces {
+        put_piece(sink, piece)?;
+    }
+    Ok(())
+}
+
+fn put_piece<S: Sink>(sink: &mut S, piece: &Piece<'_>) -> Result<(), PutFault>
+    ensures { Wrote S.faults S.written sink.old sink.new (piece_text piece.now) result }
+{
+    match *piece {
+        Piece::Text(text) => put_text(sink, text),
+        Piece::Number(value) => put_number(sink, value),
+    }
+}

@@ -1,0 +1,204 @@
+-- Rows of bits in 64-bit words.
+use Rattle.std.proofs.Common.{◌≡◌, ◌↔◌, ℕ, ◌+◌, ◌*◌, ◌/◌, ◌%◌, ◌^◌, ◌<◌, ◌≤◌, zero, suc, Bool, true, false, not, List, length, get_or, set, map, replicate, bit_and, bit_xor, eqb, IsTrue, Option, Some, None, MatchOption, refl, sym, ap, ◌∙◌, subst, inl, inr, arith}
+use Rattle.std.specs.Bool.{beq}
+use Rattle.std.specs.List.{range_with_len}
+use Rattle.std.specs.Simd.Lanes.{zip2}
+use Rattle.std.specs.Int.{bit_at}
+use Rattle.std.specs.Option.{is_some}
+use mathlib.Core.Path.{fun_ext}
+use Rattle.std.proofs.lemmas.Simd.{length-zip2, get_or-zip2, length-replicate, get_or-replicate}
+use Rattle.std.proofs.lemmas.Bool.{cases_lt, cases_eq, false≢true}
+use Rattle.std.proofs.lemmas.List.{same_lists, get_or_default, get_or_past, length-set, get_or-set_same, get_or-set_other}
+use Rattle.std.proofs.lemmas.List.FromFn.{length-map-range_with_len, get_or-map-range_with_len}
+use Rattle.std.proofs.lemmas.Nat.{one_shl}
+use Rattle.std.proofs.lemmas.Nat.Bits.{bit_at-zero, bit_at-lt, bit_at_xor, bit_at-pow_same, bit_at-pow_other, shr_and_one}
+use Rattle.span_model.specs.Columns.{Columns, empty, set_of, ◌△◌}
+use Rattle.gf2_span.specs.Words.{is_set, bits_of, IsPadded}
+use Rattle.gf2_span.specs.Rows.{IsFirst}
+use Rattle.gf2_span.proofs.Kernels.{none_set}
+
+pub length-bits : (columns : ℕ) (words : List ℕ) → length (bits_of columns words) ≡ columns
+unfolding bits_of
+length-bits columns words = length-map-range_with_len (is_set words) 0 columns
+
+pub bit-bits : (columns : ℕ) (words : List ℕ) → IsPadded columns words → (c : ℕ) → get_or (bits_of columns words) c false ≡ is_set words c
+unfolding bits_of
+bit-bits columns words padded c = elim (cases_lt c columns) [
+  | inl lt ↦ get_or-map-range_with_len (is_set words) 0 columns c c false lt (omega arith)
+  | inr ge ↦ get_or_past (map (is_set words) (range_with_len 0 columns)) c false (omega (arith, length-map-range_with_len (is_set words) 0 columns)) ∙ sym (padded.clear c ge)
+]
+
+-- the set of a row is what its words say
+pub set_of-bits : (columns : ℕ) (words : List ℕ) → IsPadded columns words → set_of (bits_of columns words) ≡ is_set words
+set_of-bits columns words padded = fun_ext (λ c. bit-bits columns words padded c)
+
+-- a row with the bits of the words
+pub bits_from : (columns : ℕ) (words : List ℕ) (row : List Bool) → length row ≡ columns → ((c : ℕ) → c < columns → is_set words c ≡ get_or row c false) → bits_of columns words ≡ row
+unfolding bits_of
+bits_from columns words row long same =
+    same_lists (map (is_set words) (range_with_len 0 columns)) row (length-map-range_with_len (is_set words) 0 columns ∙ sym long) (λ k d h.
+    let in_row : k < columns = omega (arith, length-map-range_with_len (is_set words) 0 columns) in
+    get_or-map-range_with_len (is_set words) 0 columns k k d in_row (omega arith) ∙ same k in_row ∙ get_or_default row k false d (omega arith))
+
+odd_sum : (x y : ℕ) → x < 2 → y < 2 → eqb ((x + y) % 2) 1 ≡ not (beq (eqb x 1) (eqb y 1))
+odd_sum zero zero h k = refl
+odd_sum zero (suc zero) h k = refl
+odd_sum (suc zero) zero h k = refl
+odd_sum (suc zero) (suc zero) h k = refl
+odd_sum (suc (suc x)) y h k = absurd (omega arith)
+odd_sum zero (suc (suc y)) h k = absurd (omega arith)
+odd_sum (suc zero) (suc (suc y)) h k = absurd (omega arith)
+
+xor_bit : (a b i : ℕ) → eqb (bit_at (bit_xor a b) i) 1 ≡ not (beq (eqb (bit_at a i) 1) (eqb (bit_at b i) 1))
+xor_bit a b i = ap (λ x. eqb x 1) (bit_at_xor a b i) ∙ odd_sum (bit_at a i) (bit_at b i) (bit_at-lt a i) (bit_at-lt b i)
+
+-- the words of a sum have the symmetric difference of the columns
+xor_set : (a b : List ℕ) (c : ℕ) → length a ≡ length b → is_set (zip2 bit_xor a b) c ≡ not (beq (is_set a c) (is_set b c))
+unfolding is_set
+xor_set a b c same =
+    let word : get_or (zip2 bit_xor a b) (c / 64) 0 ≡ bit_xor (get_or a (c / 64) 0) (get_or b (c / 64) 0) = elim (cases_lt (c / 64) (length a)) [
+      | inl lt ↦ get_or-zip2 bit_xor a b (c / 64) 0 0 0 lt (omega arith)
+      | inr ge ↦
+          get_or_past (zip2 bit_xor a b) (c / 64) 0 (omega (arith, length-zip2 bit_xor a b same))
+          ∙ sym (ap (λ x. bit_xor x (get_or b (c / 64) 0)) (get_or_past a (c / 64) 0 ge) ∙ ap (λ x. bit_xor 0 x) (get_or_past b (c / 64) 0 (omega arith)))
+    ] in
+    ap (λ w. eqb (bit_at w (c % 64)) 1) word ∙ xor_bit (get_or a (c / 64) 0) (get_or b (c / 64) 0) (c % 64)
+
+pub sum_padded : (columns : ℕ) (a b : List ℕ) → IsPadded columns a → IsPadded columns b → IsPadded columns (zip2 bit_xor a b)
+sum_padded columns a b padded_a padded_b =
+    let same : length a ≡ length b = padded_a.long ∙ sym padded_b.long in
+    record {
+      small = padded_a.small;
+      long = length-zip2 bit_xor a b same ∙ padded_a.long;
+      clear = λ c h. xor_set a b c same ∙ ap (λ x. not (beq x (is_set b c))) (padded_a.clear c h) ∙ ap (λ x. not (beq false x)) (padded_b.clear c h);
+    }
+
+pub set_of-sum : (columns : ℕ) (a b : List ℕ) → IsPadded columns a → IsPadded columns b
+    → set_of (bits_of columns (zip2 bit_xor a b)) ≡ set_of (bits_of columns a) △ set_of (bits_of columns b)
+set_of-sum columns a b padded_a padded_b =
+    let same : length a ≡ length b = padded_a.long ∙ sym padded_b.long in
+    set_of-bits columns (zip2 bit_xor a b) (sum_padded columns a b padded_a padded_b)
+    ∙ fun_ext (λ c. xor_set a b c same)
+    ∙ ap (λ (x : Columns ℕ). x △ is_set b) (sym (set_of-bits columns a padded_a))
+    ∙ ap (λ (x : Columns ℕ). set_of (bits_of columns a) △ x) (sym (set_of-bits columns b padded_b))
+
+-- one flipped column
+flipped : List ℕ → ℕ → List ℕ
+flipped words c = set words (c / 64) (bit_xor (get_or words (c / 64) 0) (1 * 2 ^ (c % 64) % 2 ^ 64))
+
+double_not : (b : Bool) → not (beq b true) ≡ not b
+double_not true = refl
+double_not false = refl
+
+keep : (b : Bool) → not (beq b false) ≡ b
+keep true = refl
+keep false = refl
+
+bit_flipped : (w k : ℕ) → k < 64 → eqb (bit_at (bit_xor w (1 * 2 ^ k % 2 ^ 64)) k) 1 ≡ not (eqb (bit_at w k) 1)
+bit_flipped w k h =
+    xor_bit w (1 * 2 ^ k % 2 ^ 64) k
+    ∙ ap (λ x. not (beq (eqb (bit_at w k) 1) (eqb (bit_at x k) 1))) (one_shl k 64 h)
+    ∙ ap (λ x. not (beq (eqb (bit_at w k) 1) (eqb x 1))) (bit_at-pow_same k)
+    ∙ double_not (eqb (bit_at w k) 1)
+
+bit_kept : (w k i : ℕ) → k < 64 → (i ≡ k → ⊥) → eqb (bit_at (bit_xor w (1 * 2 ^ k % 2 ^ 64)) i) 1 ≡ eqb (bit_at w i) 1
+bit_kept w k i h other =
+    xor_bit w (1 * 2 ^ k % 2 ^ 64) i
+    ∙ ap (λ x. not (beq (eqb (bit_at w i) 1) (eqb (bit_at x i) 1))) (one_shl k 64 h)
+    ∙ ap (λ x. not (beq (eqb (bit_at w i) 1) (eqb x 1))) (bit_at-pow_other k i other)
+    ∙ keep (eqb (bit_at w i) 1)
+
+set_flipped : (words : List ℕ) (c : ℕ) → c / 64 < length words → is_set (flipped words c) c ≡ not (is_set words c)
+unfolding is_set flipped
+set_flipped words c h =
+    ap (λ w. eqb (bit_at w (c % 64)) 1) (get_or-set_same words (c / 64) (bit_xor (get_or words (c / 64) 0) (1 * 2 ^ (c % 64) % 2 ^ 64)) 0 h)
+    ∙ bit_flipped (get_or words (c / 64) 0) (c % 64) (omega arith)
+
+set_kept : (words : List ℕ) (c d : ℕ) → c / 64 < length words → (d ≡ c → ⊥) → is_set (flipped words c) d ≡ is_set words d
+unfolding is_set flipped
+set_kept words c d h other = elim (cases_eq (d / 64) (c / 64)) [
+  | inl same ↦
+      let e : get_or (set words (c / 64) (bit_xor (get_or words (c / 64) 0) (1 * 2 ^ (c % 64) % 2 ^ 64))) (d / 64) 0 ≡ bit_xor (get_or words (d / 64) 0) (1 * 2 ^ (c % 64) % 2 ^ 64) =
+      ap (λ i. get_or (set words (c / 64) (bit_xor (get_or words (c / 64) 0) (1 * 2 ^ (c % 64) % 2 ^ 64))) i 0) same
+      ∙ get_or-set_same words (c / 64) (bit_xor (get_or words (c / 64) 0) (1 * 2 ^ (c % 64) % 2 ^ 64)) 0 h
+      ∙ ap (λ i. bit_xor (get_or words i 0) (1 * 2 ^ (c % 64) % 2 ^ 64)) (sym same) in
+      ap (λ w. eqb (bit_at w (d % 64)) 1) e ∙ bit_kept (get_or words (d / 64) 0) (c % 64) (d % 64) (omega arith) (λ m. other (omega arith))
+  | inr apart ↦ ap (λ w. eqb (bit_at w (d % 64)) 1) (get_or-set_other words (c / 64) (d / 64) (bit_xor (get_or words (c / 64) 0) (1 * 2 ^ (c % 64) % 2 ^ 64)) 0 apart)
+]
+
+pub flip_padded : (columns : ℕ) (words : List ℕ) (c : ℕ) → IsPadded columns words → c < columns
+    → IsPadded columns (set words (c / 64) (bit_xor (get_or words (c / 64) 0) (1 * 2 ^ (c % 64) % 2 ^ 64)))
+unfolding flipped
+flip_padded columns words c padded h =
+    let in_words : c / 64 < length words = omega (arith, padded.long) in
+    record {
+      small = padded.small;
+      long = length-set words (c / 64) (bit_xor (get_or words (c / 64) 0) (1 * 2 ^ (c % 64) % 2 ^ 64)) ∙ padded.long;
+      clear = λ d past. set_kept words c d in_words (λ e. absurd (omega arith)) ∙ padded.clear d past;
+    }
+
+pub bits-flip : (columns : ℕ) (words : List ℕ) (c : ℕ) → IsPadded columns words → c < columns
+    → bits_of columns (set words (c / 64) (bit_xor (get_or words (c / 64) 0) (1 * 2 ^ (c % 64) % 2 ^ 64)))
+    ≡ set (bits_of columns words) c (not (get_or (bits_of columns words) c false))
+unfolding flipped
+bits-flip columns words c padded h =
+    let in_words : c / 64 < length words = omega (arith, padded.long) in
+    let row : List Bool = bits_of columns words in
+    let long : length (bits_of columns words) ≡ columns = length-bits columns words in
+    bits_from columns (flipped words c) (set row c (not (get_or row c false))) (length-set row c (not (get_or row c false)) ∙ long) (λ d in_row.
+    elim (cases_eq d c) [
+      | inl same ↦
+          ap (λ i. is_set (flipped words c) i) same ∙ set_flipped words c in_words ∙ ap not (sym (bit-bits columns words padded c))
+          ∙ sym (get_or-set_same row c (not (get_or row c false)) false (omega arith)) ∙ ap (λ i. get_or (set row c (not (get_or row c false))) i false) (sym same)
+      | inr other ↦
+          set_kept words c d in_words other ∙ sym (bit-bits columns words padded d) ∙ sym (get_or-set_other row c d (not (get_or row c false)) false other)
+    ])
+
+-- no word is set in a row of zero words
+zeros_unset : (n c : ℕ) → is_set (replicate n 0) c ≡ false
+zeros_unset n c = none_set (replicate n 0) n (omega (arith, length-replicate {A = ℕ} n 0)) (λ k h. get_or-replicate {A = ℕ} n k 0 0 h) c
+
+pub zeros_padded : (columns : ℕ) → columns < 2 ^ 32 → IsPadded columns (replicate ((columns + 63) / 64) 0)
+zeros_padded columns small = record { small = small; long = length-replicate {A = ℕ} ((columns + 63) / 64) 0; clear = λ c _. zeros_unset ((columns + 63) / 64) c }
+
+pub bits-zeros : (columns n : ℕ) → bits_of columns (replicate n 0) ≡ replicate columns false
+bits-zeros columns n =
+    bits_from columns (replicate n 0) (replicate columns false) (length-replicate columns false) (λ c h. zeros_unset n c ∙ sym (get_or-replicate columns c false false h))
+
+-- the test of one bit
+pub bit_test : (words : List ℕ) (c : ℕ) (word : ℕ) → word ≡ get_or words (c / 64) 0 → eqb (bit_and (word / 2 ^ (c % 64)) 1) 1 ≡ is_set words c
+unfolding is_set
+bit_test words c word e = ap (λ x. eqb x 1) (shr_and_one word (c % 64)) ∙ ap (λ w. eqb (bit_at w (c % 64)) 1) e
+
+pub past_unset : (words : List ℕ) (c : ℕ) → length words ≤ c / 64 → is_set words c ≡ false
+unfolding is_set
+past_unset words c past = ap (λ w. eqb (bit_at w (c % 64)) 1) (get_or_past words (c / 64) 0 past) ∙ ap (λ b. eqb b 1) (bit_at-zero (c % 64))
+
+-- nothing is set below the word of a column where nothing is set below the column
+pub clear_below : (columns : ℕ) (words : List ℕ) (low : ℕ) → IsPadded columns words
+    → ((c : ℕ) → c < low → set_of (bits_of columns words) c ≡ false) → (c : ℕ) → c < 64 * (low / 64) → is_set words c ≡ false
+clear_below columns words low padded none c h = sym (bit-bits columns words padded c) ∙ none c (omega arith)
+
+-- the first bit of the words is the first column of the row
+pub first_column : (columns : ℕ) (words : List ℕ) (b : ℕ) → IsPadded columns words → IsFirst (is_set words) b
+    → (b < length (bits_of columns words)) × IsFirst (set_of (bits_of columns words)) b
+first_column columns words b padded first =
+    let inside : b < columns = elim (cases_lt b columns) [ inl lt ↦ lt | inr ge ↦ absurd (false≢true (sym (padded.clear b ge) ∙ first.there)) ] in
+    let P : Columns ℕ → Type 0 = λ row. IsFirst row b in
+    (omega (arith, length-bits columns words), subst P (sym (set_of-bits columns words padded)) first)
+
+pub first_in_columns : (columns : ℕ) (words : List ℕ) (b : ℕ) → IsPadded columns words → IsFirst (is_set words) b → b < 2 ^ 32
+first_in_columns columns words b padded first =
+    elim (cases_lt b columns) [ inl lt ↦ omega (arith, padded.small) | inr ge ↦ absurd (false≢true (sym (padded.clear b ge) ∙ first.there)) ]
+
+-- a row of words with no bit is the empty set
+pub no_column : (columns : ℕ) (words : List ℕ) → IsPadded columns words → ((c : ℕ) → is_set words c ≡ false) → set_of (bits_of columns words) ≡ empty
+no_column columns words padded none = set_of-bits columns words padded ∙ fun_ext none
+
+-- the test whether there is a first column
+pub no_first : (row : Columns ℕ) (o : Option ℕ) (none : Bool) (bound : ℕ) → is_some o ≡ not none → MatchOption o (row ≡ empty) (λ c. (c < bound) × IsFirst row c)
+    → IsTrue none ↔ (row ≡ empty)
+no_first row None true bound e h = (λ _. h, λ _. refl)
+no_first row None false bound e h = absurd (false≢true e)
+no_first row (Some c) false bound e h = (λ t. absurd (false≢true t), λ z. absurd (false≢true (sym (ap (λ (x : Columns ℕ). x c) z) ∙ h.1.there)))
+no_first row (Some c) true bound e h = absurd (false≢true (sym e))

@@ -1,0 +1,4 @@
+pub mod Kernels
+pub mod Bits
+pub mod Leads
+pub mod Meeting

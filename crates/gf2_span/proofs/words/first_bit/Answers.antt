@@ -1,0 +1,15 @@
+use Rattle.std.proofs.Common.{◌<◌, ◌^◌, get_or, arith}
+use Rattle.gf2_span.proofs.words.first_bit.Goals as goal
+use Rattle.gf2_span.proofs.Kernels.{none_set, first_found, zeros_below}
+
+pub returns-then-word-ne0 : goal.returns-then-word-ne0
+returns-then-word-ne0 c =
+    let some : 0 < get_or c.args.words.now c.loop-at.at 0 = omega arith in
+    let fits : get_or c.args.words.now c.loop-at.at 0 < 2 ^ 64 = (c.type_inv.words c.loop-at.at).fits in
+    first_found c.args.words.now c.loop-at.at c.loop-at.invariant some fits
+
+pub returns : goal.returns
+returns c = none_set c.args.words.now c.loop-at.at (omega arith) c.loop-at.invariant
+
+pub loop-at-init : goal.loop-at-init
+loop-at-init c = zeros_below c.args.words.now c.args.from c.type_inv.words c.requires.clear

@@ -1,0 +1,18 @@
+-- Rows as 64-bit words, the lowest bit of the first word being column 0.
+use Rattle.std.specs.Prelude.{◌≡◌, ℕ, Bool, false, List, map, length, ◌+◌, ◌/◌, ◌%◌, ◌≤◌, ◌<◌, ◌^◌, eqb, slice_index}
+use Rattle.std.specs.Int.{bit_at}
+use Rattle.std.specs.List.{range_with_len}
+
+-- whether a column is set in the words
+unfoldable pub is_set : List ℕ → ℕ → Bool
+is_set words column = eqb (bit_at (slice_index words (column / 64)) (column % 64)) 1
+
+-- the bits of so many columns, in order
+unfoldable pub bits_of : ℕ → List ℕ → List Bool
+bits_of columns words = map (is_set words) (range_with_len 0 columns)
+
+-- the columns are numbered in 32 bits, there are just as many words as they need, and nothing is set past them
+pub record IsPadded (columns : ℕ) (words : List ℕ) : Type 0 where
+  pub small : columns < 2 ^ 32
+  pub long : length words ≡ (columns + 63) / 64
+  pub clear : (column : ℕ) → columns ≤ column → is_set words column ≡ false

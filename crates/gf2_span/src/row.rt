@@ -1,0 +1,121 @@
+ghost use Rattle.std.specs.Prelude.{◌≡◌, ◌≢◌, ℕ, ◌<◌, ◌≤◌, ◌↔◌, length, not, true, false, slice_index_or, slice_set, replicate, IsTrue, IfOk, MatchOption};
+ghost use Rattle.span_model.specs.Columns.{set_of, empty, ◌△◌};
+ghost use Rattle.gf2_span.specs.Rows.{IsFirst};
+
+use crate::words::{add_words, first_bit};
+use std::alloc::{AllocError, Global};
+use std::marker::Model;
+
+/// A set of columns, as one bit for each column. Contracts see the list of the bits.
+#[derive(Debug, Drop)]
+pub struct BitRow {
+    words: Vec<u64>,
+    columns: u32,
+}
+
+impl Model for BitRow {
+    ghost use Rattle.std.specs.Prelude.{List, Bool};
+    ghost use Rattle.gf2_span.specs.Words.{bits_of, IsPadded};
+
+    ghost Value = { List Bool };
+
+    ghost view = { λ row. bits_of row.columns row.words.items };
+
+    ghost invariant = { λ row. IsPadded row.columns row.words.items };
+}
+
+impl BitRow {
+    /// The empty row of so many columns.
+    pub fn new(alloc: Global, columns: u32) -> Result<BitRow, AllocError>
+        ensures { IfOk result (λ row. row ≡ replicate columns false) }
+    {
+        let words = vec![in alloc; 0u64; (columns as usize + 63) / 64]?;
+        Ok(BitRow { words, columns })
+    }
+
+    pub fn copy(&self, alloc: Global) -> Result<BitRow, AllocError>
+        ensures { IfOk result (λ row. row ≡ self.now) }
+    {
+        let words = Vec::from_slice(alloc, self.words.as_slice())?;
+        Ok(BitRow {
+            words,
+            columns: self.columns,
+        })
+    }
+
+    pub fn columns(&self) -> u32
+        ensures { result ≡ length self.now }
+    {
+        self.columns
+    }
+
+    /// Whether a column is in the set. None at or past the column count is.
+    pub fn has(&self, c: u32) -> bool
+        ensures { result ≡ set_of self.now c }
+    {
+        match self.words.get(c as usize / 64) {
+            Some(word) => (*word >> (c % 64)) & 1 == 1,
+            None => false,
+        }
+    }
+
+    /// Puts a column in where it was not there, and takes it out where it was.
+    pub fn flip(&mut self, c: u32)
+        requires { c < length self.old }
+        ensures { self.new ≡ slice_set self.old c (not (slice_index_or self.old c false)) }
+    {
+        self.words[c as usize / 64] ^= 1 << (c % 64);
+    }
+
+    /// The symmetric difference with another row.
+    pub fn add(&mut self, other: &BitRow)
+        requires { length self.old ≡ length other.now }
+        ensures columns { length self.new ≡ length self.old }
+        ensures sum { set_of self.new ≡ set_of self.old △ set_of other.now }
+    {
+        self.add_from(other, 0);
+    }
+
+    pub fn is_zero(&self) -> bool
+        ensures { IsTrue result ↔ (set_of self.now ≡ empty) }
+    {
+        self.first().is_none()
+    }
+
+    /// The least column.
+    pub fn first(&self) -> Option<u32>
+        ensures { MatchOption result (set_of self.now ≡ empty) (λ c. (c < length self.now) × IsFirst (set_of self.now) c) }
+    {
+        self.first_from(0)
+    }
+
+    // `add` where the other row is known to have no column below `low`.
+    pub(crate) fn add_from(&mut self, other: &BitRow, low: u32)
+        requires same { length self.old ≡ length other.now }
+        requires within { low ≤ length self.old }
+        requires clear { (c : ℕ) → c < low → set_of other.now c ≡ false }
+        ensures columns { length self.new ≡ length self.old }
+        ensures sum { set_of self.new ≡ set_of self.old △ set_of other.now }
+    {
+        add_words(&mut self.words, &other.words, low as usize / 64);
+    }
+
+    // `first` where the row is known to have no column below `low`.
+    pub(crate) fn first_from(&self, low: u32) -> Option<u32>
+        requires clear { (c : ℕ) → c < low → set_of self.now c ≡ false }
+        ensures { MatchOption result (set_of self.now ≡ empty) (λ c. (c < length self.now) × IsFirst (set_of self.now) c) }
+    {
+        match first_bit(&self.words, low as usize / 64) {
+            Some(c) => Some(c as u32),
+            None => None,
+        }
+    }
+
+    // Makes the row equal to another.
+    pub(crate) fn overwrite(&mut self, other: &BitRow)
+        requires { length self.old ≡ length other.now }
+        ensures { self.new ≡ other.now }
+    {
+        self.words.copy_from_slice(&other.words);
+    }
+}

@@ -1,0 +1,167 @@
+-- What the test of a table says of it.
+use Rattle.std.proofs.Common.{◌≡◌, ℕ, ◌+◌, ◌^◌, ◌<◌, ◌≤◌, zero, suc, max, min, Bool, true, false, not, ◌||◌, eqb, List, [], ◌∷◌, length, get_or, Some, sym, refl, ap, ◌∙◌, subst, inl, inr, ◌⊎◌, arith, slice_get}
+use Rattle.std.specs.Int.{bit_at}
+use Rattle.std.specs.Prelude.{bit_and, bit_or}
+use Rattle.std.specs.List.{list_all}
+use Rattle.std.proofs.lemmas.Bool.{and_parts, or_cases, eqb-true, ltb-true, leb-true, not-true, both_ways, cases_order, eq-eqb}
+use Rattle.std.proofs.lemmas.Nat.Bits.{bit_at_and, bit_at_or, bit_at-zero, bit_at-pow_same, bit_at-lt}
+use Rattle.std.proofs.lemmas.Option.{same_Some, none-some, slice_get-get_or}
+use Rattle.ll_reader.specs.declared.grammar.Frame.{Frame}
+use Rattle.ll_reader.specs.declared.grammar.Production.{Production}
+use Rattle.ll_reader.specs.Derivation.{items}
+use Rattle.ll_reader.specs.Predictive.{Facts, no_facts, facts_of, is_within, lead_of, can_all_be_empty, weight_of, height_of, is_linked, fits, is_apart, are_apart, production_of, all_end, passes, passes_within, learn_all, follow_all, first_facts, IsPredictive}
+
+-- the class is in the set
+abbrev pub In : ℕ → ℕ → Type 0
+In c set = bit_at set c ≡ 1
+
+one_of_max : (x y : ℕ) → max x y ≡ y → y < 2 → x ≡ 1 → y ≡ 1
+one_of_max x y h low one = omega arith
+
+pub within_in : (p q c : ℕ) → is_within p q ≡ true → In c p → In c q
+within_in p q c h one =
+    one_of_max (bit_at p c) (bit_at q c) (sym (bit_at_or p q c) ∙ ap (λ n. bit_at n c) (eqb-true (bit_or p q) q h)) (bit_at-lt q c) one
+
+not_both_ones : (x y : ℕ) → min x y ≡ 0 → x ≡ 1 → y ≡ 1 → ⊥
+not_both_ones x y h one other = absurd (omega arith)
+
+pub apart_not : (p q c : ℕ) → bit_and p q ≡ 0 → In c p → In c q → ⊥
+apart_not p q c h one other =
+    not_both_ones (bit_at p c) (bit_at q c) (sym (bit_at_and p q c) ∙ ap (λ n. bit_at n c) h ∙ bit_at-zero c) one other
+
+pub pow_in : (c : ℕ) → In c (2 ^ c)
+pow_in c = bit_at-pow_same c
+
+-- what the test says of a production
+pub record Fits (facts : List Facts) (end : ℕ) (p : Production) : Type 0 where
+  pub known : p.rule < length facts
+  pub room : p.length ≤ 12
+  pub lead : is_within (lead_of facts (facts_of facts p.rule).follow (items p)) p.first ≡ true
+  pub own : is_within p.first (facts_of facts p.rule).lead ≡ true
+  pub linked : is_linked facts end (facts_of facts p.rule).follow (items p) ≡ true
+  pub lighter : weight_of facts (items p) < (facts_of facts p.rule).weight
+  pub empty : ((facts_of facts p.rule).can_be_empty ≡ true) ⊎ (can_all_be_empty facts (items p) ≡ false)
+
+or_not : (x y : Bool) → (x || not y) ≡ true → (x ≡ true) ⊎ (y ≡ false)
+or_not true y h = inl refl
+or_not false true h = cc
+or_not false false h = inr refl
+
+fits_Fits : (facts : List Facts) (end : ℕ) (p : Production) → fits facts end p ≡ true → Fits facts end p
+fits_Fits facts end p h =
+    let a = and_parts _ _ h in
+    let b = and_parts _ _ a.0 in
+    let c = and_parts _ _ b.0 in
+    let d = and_parts _ _ c.0 in
+    let e = and_parts _ _ d.0 in
+    let f = and_parts _ _ e.0 in
+    record {
+      known = ltb-true p.rule (length facts) f.0;
+      room = leb-true p.length 12 f.1;
+      lead = e.1;
+      own = d.1;
+      linked = c.1;
+      lighter = ltb-true (weight_of facts (items p)) (facts_of facts p.rule).weight b.1;
+      empty = or_not (facts_of facts p.rule).can_be_empty (can_all_be_empty facts (items p)) a.1;
+    }
+
+all_get : {X : Type 0} (test : X → Bool) (xs : List X) (k : ℕ) (x : X) → list_all test xs ≡ true → slice_get xs k ≡ Some x → test x ≡ true
+all_get test [] k x all at = absurd (none-some x at)
+all_get test (y ∷ ys) zero x all at = ap test (sym (same_Some y x at)) ∙ (and_parts (test y) (list_all test ys) all).0
+all_get test (y ∷ ys) (suc k) x all at = all_get test ys k x (and_parts (test y) (list_all test ys) all).1 at
+
+apart_at : (ps : List Production) (j k : ℕ) (p q : Production) → are_apart ps ≡ true → slice_get ps j ≡ Some p → slice_get ps k ≡ Some q → j < k → is_apart p q ≡ true
+apart_at [] j k p q h at other below = absurd (none-some p at)
+apart_at (x ∷ ps) j zero p q h at other below = absurd (omega arith)
+apart_at (x ∷ ps) zero (suc k) p q h at other below =
+    subst (λ y. is_apart y q ≡ true) (same_Some x p at) (all_get (is_apart x) ps k q (and_parts (list_all (is_apart x) ps) (are_apart ps) h).0 other)
+apart_at (x ∷ ps) (suc j) (suc k) p q h at other below =
+    let less : j < k = omega arith in
+    apart_at ps j k p q (and_parts (list_all (is_apart x) ps) (are_apart ps) h).1 at other less
+
+apart_choice : (p q : Production) (c : ℕ) → is_apart p q ≡ true → p.rule ≡ q.rule → In c p.first → In c q.first → ⊥
+apart_choice p q c h same one other =
+    elim (or_cases (not (eqb p.rule q.rule)) (eqb (bit_and p.first q.first) 0) h) [
+      | inl differ ↦ both_ways (eqb p.rule q.rule) (not-true (eqb p.rule q.rule) differ) (eq-eqb p.rule q.rule same)
+      | inr none ↦ apart_not p.first q.first c (eqb-true (bit_and p.first q.first) 0 none) one other
+    ]
+
+-- a production of the rule whose items are no higher
+pub record EndsAt (table : List Production) (facts : List Facts) (a : ℕ) : Type 0 where
+  pub number : ℕ
+  pub production : Production
+  pub at : slice_get table number ≡ Some production
+  pub of : production.rule ≡ a
+  pub low : height_of facts (items production) ≤ (facts_of facts a).height
+
+plus_none : (n : ℕ) → n + 0 ≡ n
+plus_none n = omega arith
+
+ends_at : (table : List Production) (facts : List Facts) (fs : List Facts) (from i : ℕ) → all_end table facts from fs ≡ true → i < length fs → get_or fs i no_facts ≡ facts_of facts (from + i) → EndsAt table facts (from + i)
+ends_at table facts [] from i h inside same = absurd (omega arith)
+ends_at table facts (f ∷ fs) from zero h inside same =
+    let a = and_parts _ _ h in
+    let b = and_parts _ _ a.0 in
+    let c = and_parts _ _ b.0 in
+    let p = production_of table f.ending in
+    record {
+      number = f.ending;
+      production = p;
+      at = slice_get-get_or table f.ending _ (ltb-true f.ending (length table) c.0);
+      of = eqb-true p.rule from c.1 ∙ sym (plus_none from);
+      low = subst (λ (g : Facts). height_of facts (items p) ≤ g.height) same (leb-true (height_of facts (items p)) f.height b.1);
+    }
+ends_at table facts (f ∷ fs) from (suc i) h inside same =
+    let e : (from + 1) + i ≡ from + suc i = omega arith in
+    let less : i < length fs = omega arith in
+    subst (EndsAt table facts) e (ends_at table facts fs (from + 1) i (and_parts _ _ h).1 less (same ∙ ap (facts_of facts) (sym e)))
+
+-- what the test says of a table
+pub record Passed (facts : List Facts) (start end : ℕ) (table : List Production) : Type 0 where
+  pub few : length table < 65536
+  pub start_known : start < length facts
+  pub end_follows : In end (facts_of facts start).follow
+  pub each : (k : ℕ) (p : Production) → slice_get table k ≡ Some p → Fits facts end p
+  pub choice : (j k : ℕ) (p q : Production) (c : ℕ) → slice_get table j ≡ Some p → slice_get table k ≡ Some q → p.rule ≡ q.rule → In c p.first → In c q.first → j ≡ k
+  pub ending : (a : ℕ) → a < length facts → EndsAt table facts a
+
+passed : (facts : List Facts) (start end : ℕ) (table : List Production) → passes facts start end table ≡ true → Passed facts start end table
+passed facts start end table h =
+    let a = and_parts _ _ h in
+    let b = and_parts _ _ a.0 in
+    let c = and_parts _ _ b.0 in
+    let d = and_parts _ _ c.0 in
+    let e = and_parts _ _ d.0 in
+    record {
+      few = ltb-true (length table) 65536 e.0;
+      start_known = ltb-true start (length facts) e.1;
+      end_follows = within_in (2 ^ end) (facts_of facts start).follow end d.1 (pow_in end);
+      each = λ k p at. fits_Fits facts end p (all_get (fits facts end) table k p c.1 at);
+      choice = λ j k p q c at other same one both. elim (cases_order j k) [
+        | inl equal ↦ equal
+        | inr (inl below) ↦ absurd (apart_choice p q c (apart_at table j k p q b.1 at other below) same one both)
+        | inr (inr above) ↦ absurd (apart_choice q p c (apart_at table k j q p b.1 other at above) (sym same) both one)
+      ];
+      ending = λ i inside. let e : 0 + i ≡ i = omega arith in subst (EndsAt table facts) e (ends_at table facts facts 0 i a.1 inside (ap (facts_of facts) (sym e)));
+    }
+
+-- the facts with which a table passes
+settled : ℕ → List Facts → ℕ → ℕ → List Production → List Facts
+settled zero facts start end table = facts
+settled (suc n) facts start end table =
+    elim (passes facts start end table) [ true ↦ facts | false ↦ settled n (follow_all (learn_all facts 0 table) table) start end table ]
+
+settles : (n : ℕ) (facts : List Facts) (start end : ℕ) (table : List Production) → passes_within n facts start end table ≡ true → passes (settled n facts start end table) start end table ≡ true
+unfolding settled
+settles zero facts start end table h = cc
+settles (suc n) facts start end table h =
+    let next = follow_all (learn_all facts 0 table) table in
+    let Goal : Bool → Type 0 = λ b. passes facts start end table ≡ b → (elim b [ true ↦ true | false ↦ passes_within n next start end table ]) ≡ true → passes (elim b [ true ↦ facts | false ↦ settled n next start end table ]) start end table ≡ true in
+    (elim (passes facts start end table) as Goal [ true ↦ λ is _. is | false ↦ λ _ rest. settles n next start end table rest ]) refl h
+
+pub known_of : List Production → Frame → List Facts
+known_of table frame = settled (length table) (first_facts frame.start frame.end table) frame.start frame.end table
+
+pub table_passed : (table : List Production) (frame : Frame) → IsPredictive table frame → Passed (known_of table frame) frame.start frame.end table
+unfolding known_of IsPredictive
+table_passed table frame h = passed (known_of table frame) frame.start frame.end table (settles (length table) (first_facts frame.start frame.end table) frame.start frame.end table h)

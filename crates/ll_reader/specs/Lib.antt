@@ -1,0 +1,6 @@
+pub mod Derivation
+pub mod Depth
+pub mod Predictive
+pub mod Answer
+pub mod Choice
+pub mod Memory

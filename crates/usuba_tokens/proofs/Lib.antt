@@ -1,0 +1,6 @@
+pub mod Choices
+pub mod NumberLemmas
+pub mod HeadLemmas
+pub mod PlaceLemmas
+pub mod SpellingLemmas
+pub mod LongestLemmas

@@ -1,0 +1,15 @@
+//! From the bytes of a source file to its tokens with their places.
+#![tactic(auto)]
+
+mod head;
+mod number;
+#[cfg(test)]
+mod tests;
+mod token;
+mod tokens;
+mod word;
+
+pub use token::{Base, Ending, Keyword, Sign, Token, TokenKind, Tokens, TypeWord};
+pub use tokens::{
+    broken_texts_have_a_cause, every_text_spells, one_spelling, tokens_are_longest, tokens_of,
+};

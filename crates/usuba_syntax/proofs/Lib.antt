@@ -1,0 +1,17 @@
+mod Backwards
+mod Begun
+mod Complete
+mod Evaluation
+mod Faults
+mod Made
+mod Meaning
+mod Nested
+mod NestedDepths
+mod NestedFaults
+mod NestedTable
+mod OneSource
+mod Places
+mod Reading
+mod Runs
+mod Sound
+mod Texts

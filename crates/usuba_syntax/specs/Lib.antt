@@ -1,0 +1,10 @@
+pub mod Terminals
+pub mod Indexes
+pub mod Exprs
+pub mod Items
+pub mod Declarations
+pub mod Files
+pub mod Nesting
+pub mod Sources
+pub mod Classes
+pub mod Values

@@ -1,0 +1,17 @@
+//! The source language: from the bytes of a file to its tree.
+#![tactic(auto)]
+
+mod class;
+mod laws;
+mod read;
+mod table;
+#[cfg(test)]
+mod tests;
+mod tree;
+
+pub use laws::{one_file, one_source};
+pub use read::{ReadFault, read_file};
+pub use usuba_trees::{
+    Base, BitOp, Decl, Def, Equation, Expr, File, Grid, Index, IndexLink, IndexOp, Item, Link,
+    Loop, Node, Pick, Shape, ShiftKind, ShiftLink, Spot, Word,
+};

@@ -1,0 +1,199 @@
+-- What a builder holds after an operation was kept.
+use Rattle.std.proofs.Common.{◌≡◌, ℕ, ◌+◌, ◌-◌, ◌*◌, inl, inr, append_assoc, bit_xor, ◌<◌, ◌≤◌, ◌^◌, Bool, true, false, Some, None, IfSome, get_or, List, [], ◌∷◌, ◌++◌, length, refl, sym, ap, subst, ◌∙◌, arith, length-append, if◌then◌else◌, true≢false}
+use Rattle.std.proofs.lemmas.List.{append-nil, get_or_append_left}
+use Rattle.std.proofs.lemmas.Nat.{pow_pos, xor_lt, or_lt, shr_le, mod_below}
+use Rattle.std.proofs.lemmas.Map.Keys.{any_passes_from_place}
+use Rattle.std.proofs.lemmas.Option.{slice_get-get_or, get_or_from_slice_get, slice_get_cases, slice_get_within}
+use Rattle.std.specs.List.{slice_get, list_any}
+use Rattle.usuba0.specs.declared.builder.Head.{Head}
+use Rattle.usuba0.specs.contracts.builder.HeadPartialEq.TheImpl as impl
+use Rattle.usuba0.specs.declared.builder.Head.TheVariants as head
+use Rattle.usuba0.specs.Term.{Term, Input, constant, ones, shifted_left, shifted_right, rotated_left, not_term, and_term, or_term}
+use Rattle.usuba0.specs.declared.circuit.Reg.{Reg}
+use Rattle.usuba0.specs.Builder.{Held, Holds, Names, Grows, term_of, input_terms, IsOnceEach}
+use Rattle.usuba0.specs.Heads.{term_of_head, terms_of_heads, IsHead, AreHeads, IsBuilder}
+use Rattle.usuba0.proofs.HeadLemmas.{slice_get-inputs, get_or-terms, length-inputs, length-terms, terms-push, term_of_head-append, AreHeads-push, term_at_head, new_term, once-push, head_eq-same, head_eq-itself}
+
+abbrev pub terms : ℕ → List Head → List Term
+terms n hs = terms_of_heads (input_terms n) hs
+
+pub length_of_terms : (n : ℕ) (hs : List Head) → length (terms n hs) ≡ n + length hs
+length_of_terms n hs = length-terms (input_terms n) hs ∙ ap (λ m. m + length hs) (length-inputs n)
+
+-- the operations after one was inserted
+pub record Inserts (w n : ℕ) (old new : List Head) (h : Head) : Type 0 where
+  pub builder : IsBuilder w n new
+  pub added : List Term
+  pub grown : terms n new ≡ terms n old ++ added
+  pub few : length added ≤ 1
+
+inserts_old : (w n : ℕ) (old new : List Head) (h : Head) → new ≡ old → IsBuilder w n old → Inserts w n old new h
+inserts_old w n old new h e b =
+    record {
+      builder = subst (λ (hs : List Head). IsBuilder w n hs) (sym e) b;
+      added = [];
+      grown = ap (terms n) e ∙ sym (append-nil (terms n old));
+      few = omega arith;
+    }
+
+inserts_new : (w n : ℕ) (old new : List Head) (h : Head) → new ≡ old ++ h ∷ [] → IsBuilder w n old → IsHead w (n + length old) h → n + length old < 2 ^ 25
+    → ((j : ℕ) → slice_get old j ≡ Some h → ⊥) → Inserts w n old new h
+inserts_new w n old new h e b is room absent =
+    let t = term_of_head (terms n old) h in
+    let push : terms n new ≡ terms n old ++ t ∷ [] = ap (terms n) e ∙ terms-push (input_terms n) old h in
+    let l : length new ≡ length old + 1 = ap length e ∙ length-append old (h ∷ []) in
+    record {
+      builder = record {
+        some_width = b.some_width;
+        width_fits = b.width_fits;
+        some_input = b.some_input;
+        few = omega arith;
+        earlier = subst (λ (hs : List Head). AreHeads w n hs) (sym e) (AreHeads-push w n old h b.earlier is);
+        once = subst (λ (ts : List Term). IsOnceEach ts) (sym push) (once-push (terms n old) t b.once (new_term w n old h b.earlier is b.once absent));
+      };
+      added = t ∷ [];
+      grown = push;
+      few = omega arith;
+    }
+
+pub inserts : (w n : ℕ) (old new : List Head) (h : Head) → new ≡ (if list_any (impl.eq-value.it h) old then old else old ++ h ∷ [])
+    → IsBuilder w n old → IsHead w (n + length old) h → n + length old < 2 ^ 25 → Inserts w n old new h
+inserts w n old new h e b is room = by (list_any (impl.eq-value.it h) old) refl
+  where
+    by : (r : Bool) → list_any (impl.eq-value.it h) old ≡ r → Inserts w n old new h
+    by true p = inserts_old w n old new h (e ∙ ap (λ (r : Bool). if r then old else old ++ h ∷ []) p) b
+    by false p =
+        inserts_new w n old new h (e ∙ ap (λ (r : Bool). if r then old else old ++ h ∷ []) p) b is room
+        (λ j q. true≢false (sym (any_passes_from_place (impl.eq-value.it h) old j h q (head_eq-itself h)) ∙ p))
+
+-- the term of the operation stands at its place
+pub named : (w n : ℕ) (old new : List Head) (h : Head) (at : ℕ) → Inserts w n old new h → IsHead w (n + length old) h
+    → ((k : Head) × (slice_get new at ≡ Some k) × (impl.eq-value.it h k ≡ true)) → slice_get (terms n new) (n + at) ≡ Some (term_of_head (terms n old) h)
+named w n old new h at i is stored =
+    let s : h ≡ stored.0 = head_eq-same h stored.0 stored.2 in
+    let there : slice_get new at ≡ Some h = stored.1 ∙ ap Some (sym s) in
+    let li = length-inputs n in
+    let are : AreHeads w (length (input_terms n)) new = subst (λ (m : ℕ). AreHeads w m new) (sym li) i.builder.earlier in
+    let found = term_at_head w (input_terms n) new at h are there in
+    let place : length (input_terms n) + at ≡ n + at = omega arith in
+    let is' : IsHead w (length (terms n old)) h = subst (λ (m : ℕ). IsHead w m h) (sym (length_of_terms n old)) is in
+    let same : term_of_head (terms n new) h ≡ term_of_head (terms n old) h =
+    ap (λ (l : List Term). term_of_head l h) i.grown ∙ term_of_head-append w h (terms n old) i.added is' in
+    sym (ap (slice_get (terms n new)) place) ∙ found ∙ ap Some same
+
+-- ---- what stands at a number
+
+pub input_named : (n : ℕ) (hs : List Head) (k : ℕ) → k < n → slice_get (terms n hs) k ≡ Some (Input k)
+input_named n hs k h =
+    let li = length-inputs n in
+    let l = length_of_terms n hs in
+    let a : get_or (terms n hs) k (Input 0) ≡ Input k =
+    get_or-terms (input_terms n) hs k (Input 0) (omega arith) ∙ get_or_from_slice_get (input_terms n) k (Input k) (Input 0) (slice_get-inputs n k h) in
+    slice_get-get_or (terms n hs) k (Input 0) (omega arith) ∙ ap Some a
+
+pub input_constant : (n : ℕ) (hs : List Head) (k : ℕ) → k < n → None ≡ constant (get_or (terms n hs) k (Input 0))
+input_constant n hs k h = sym (ap constant (get_or_from_slice_get (terms n hs) k (Input k) (Input 0) (input_named n hs k h)))
+
+pub head_term : (w n : ℕ) (hs : List Head) (r : ℕ) (h : Head) → AreHeads w n hs → n ≤ r → slice_get hs (r - n) ≡ Some h
+    → get_or (terms n hs) r (Input 0) ≡ term_of_head (terms n hs) h
+head_term w n hs r h are le there =
+    let li = length-inputs n in
+    let are' : AreHeads w (length (input_terms n)) hs = subst (λ (m : ℕ). AreHeads w m hs) (sym li) are in
+    let place : length (input_terms n) + (r - n) ≡ r = omega arith in
+    let t = term_of_head (terms n hs) h in
+    get_or_from_slice_get (terms n hs) r t (Input 0)
+    (subst (λ (m : ℕ). slice_get (terms n hs) m ≡ Some t) place (term_at_head w (input_terms n) hs (r - n) h are' there))
+
+pub constant_fits : (w m : ℕ) (ts : List Term) (h : Head) → IsHead w m h → IfSome (constant (term_of_head ts h)) (λ c. c < 2 ^ w)
+constant_fits w m ts (head.Const c) p = p
+constant_fits w m ts (head.Xor a b) p = tt
+constant_fits w m ts (head.Not a) p = tt
+constant_fits w m ts (head.Mask c a) p = tt
+constant_fits w m ts (head.And a b) p = tt
+constant_fits w m ts (head.Shl k a) p = tt
+constant_fits w m ts (head.Shr k a) p = tt
+constant_fits w m ts (head.Rotl k a) p = tt
+constant_fits w m ts (head.Refresh k a) p = tt
+
+pub none_within : {X : Type 0} (xs : List X) (j : ℕ) → j < length xs → slice_get xs j ≡ None → ⊥
+none_within xs j h e = elim (slice_get_cases xs j).1 as (λ _. ⊥) [ inl p ↦ some_none (sym p.2 ∙ e) | inr p ↦ omega arith ]
+  where
+    some_none : {X : Type 0} {x : X} → Some x ≡ None → ⊥
+    some_none e = cc
+
+-- ---- constants below 2 ^ w
+
+pub xor_ones_lt : (w c x : ℕ) → c < 2 ^ w → x ≡ ones w → bit_xor c x < 2 ^ w
+xor_ones_lt w c x h e = let p = pow_pos w in xor_lt w c x h (omega arith)
+
+pub rotated_lt : (w k c r : ℕ) → c < 2 ^ w → r ≡ rotated_left w k c → r < 2 ^ w
+rotated_lt w k c r h e =
+    let p = pow_pos w in
+    let a : shifted_left w k c < 2 ^ w = mod_below (c * 2 ^ k) (2 ^ w) p in
+    let b = shr_le c (w - k) in
+    let o = or_lt w (shifted_left w k c) (shifted_right (w - k) c) a (omega arith) in
+    omega arith
+
+pub shifted_left_lt : (w k c r : ℕ) → r ≡ shifted_left w k c → r < 2 ^ w
+shifted_left_lt w k c r e = let p = pow_pos w in let a : shifted_left w k c < 2 ^ w = mod_below (c * 2 ^ k) (2 ^ w) p in omega arith
+
+-- ---- growing
+
+pub Holds-more : (n : ℕ) (old new : Held) (r : Reg) → Grows n old new → Holds old r → Holds new r
+Holds-more n old new r g h =
+    let l : length new.terms ≡ length old.terms + length g.added = ap length g.terms ∙ length-append old.terms g.added in omega arith
+
+pub length-more : (n : ℕ) (old new : Held) → Grows n old new → length new.terms ≤ length old.terms + n
+length-more n old new g =
+    let l : length new.terms ≡ length old.terms + length g.added = ap length g.terms ∙ length-append old.terms g.added in
+    let f = g.few in omega arith
+
+pub term_of-more : (n : ℕ) (old new : Held) (r : Reg) → Grows n old new → Holds old r → term_of new r ≡ term_of old r
+term_of-more n old new r g h = ap (λ (ts : List Term). get_or ts r.0 (Input 0)) g.terms ∙ get_or_append_left old.terms g.added (Input 0) r.0 h
+
+pub Holds-named : (held : Held) (r : Reg) (t : Term) → Names held r t → Holds held r
+Holds-named held r t e = slice_get_within held.terms r.0 t e
+
+pub term_of-named : (held : Held) (r : Reg) (t : Term) → Names held r t → term_of held r ≡ t
+term_of-named held r t e = get_or_from_slice_get held.terms r.0 t (Input 0) e
+
+pub Grows-both : (m n k : ℕ) (a b c : Held) → Grows m a b → Grows n b c → m + n ≤ k → Grows k a c
+Grows-both m n k a b c g h le =
+    let l = length-append g.added h.added in
+    let p = g.few in
+    let q = h.few in
+    record {
+      width = h.width ∙ g.width;
+      inputs = h.inputs ∙ g.inputs;
+      added = g.added ++ h.added;
+      terms = h.terms ∙ ap (λ (ts : List Term). ts ++ h.added) g.terms ∙ append_assoc a.terms g.added h.added;
+      few = omega arith;
+      once = h.once;
+    }
+
+pub Grows-none : (n : ℕ) (a b : Held) → IsOnceEach a.terms → b ≡ a → Grows n a b
+Grows-none n a b once e =
+    subst (λ (x : Held). Grows n a x) (sym e)
+    (record { width = refl; inputs = refl; added = []; terms = sym (append-nil a.terms); few = omega arith; once = once })
+
+-- the steps of `or`
+pub or_grows : (a b c d : Held) → Grows 1 a b → Grows 1 b c → Grows 1 c d → Grows 4 a d
+or_grows a b c d f g h = Grows-both 2 1 4 a c d (Grows-both 1 1 2 a b c f g (omega arith)) h (omega arith)
+
+pub or_named : (w : ℕ) (a b c d e : Held) (x y p q r s : Reg) → Holds a x → Holds a y
+    → a.width ≡ w → Grows 1 a b → Grows 1 b c → Grows 1 c d
+    → Names b p (not_term a.width (term_of a x))
+    → Names c q (not_term b.width (term_of b y))
+    → Names d r (and_term (term_of c p) (term_of c q))
+    → Names e s (not_term d.width (term_of d r))
+    → Names e s (or_term w (term_of a x) (term_of a y))
+or_named w a b c d e x y p q r s hx hy ew gb gc gd np nq nr ns =
+    let tp : term_of c p ≡ not_term w (term_of a x) =
+    term_of-more 1 b c p gc (Holds-named b p _ np) ∙ term_of-named b p _ np ∙ ap (λ (v : ℕ). not_term v (term_of a x)) ew in
+    let wb : b.width ≡ w = gb.width ∙ ew in
+    let tq : term_of c q ≡ not_term w (term_of a y) =
+    term_of-named c q _ nq ∙ ap (λ (v : ℕ). not_term v (term_of b y)) wb ∙ ap (not_term w) (term_of-more 1 a b y gb hy) in
+    let wd : d.width ≡ w = gd.width ∙ gc.width ∙ wb in
+    let tr : term_of d r ≡ and_term (not_term w (term_of a x)) (not_term w (term_of a y)) =
+    term_of-named d r _ nr ∙ ap (λ (t : Term). and_term t (term_of c q)) tp ∙ ap (and_term (not_term w (term_of a x))) tq in
+    ns ∙ ap Some (ap (λ (v : ℕ). not_term v (term_of d r)) wd ∙ ap (not_term w) tr)

@@ -1,0 +1,9 @@
+pub mod HeadLemmas
+pub mod KeepLemmas
+pub mod CircuitLemmas
+pub mod WalkLemmas
+pub mod TextLemmas
+pub mod WalkSteps
+pub mod StartLemmas
+pub mod AdvanceLemmas
+pub mod CloseLemmas

@@ -1,0 +1,18 @@
+//! The core: a circuit of equations over registers, the builder that makes one of terms, its text and its plain run.
+#![tactic(auto)]
+
+mod builder;
+mod circuit;
+mod finish;
+mod run;
+#[cfg(test)]
+mod tests;
+mod text;
+mod words;
+
+pub use builder::{CoreBuilder, Turn};
+pub use circuit::{Core, Gate, Reg};
+pub use finish::CloseFault;
+pub use run::run_plain;
+pub use text::write_core;
+pub use words::word_bits;

@@ -1,0 +1,15 @@
+pub mod Trees
+pub mod Made
+pub mod Extends
+pub mod Errors
+pub mod Chains
+pub mod Ordered
+pub mod Tables
+pub mod Takes
+pub mod Thinness
+pub mod Singles
+pub mod Small
+pub mod Counted
+pub mod Start
+pub mod Whole
+pub mod Closing

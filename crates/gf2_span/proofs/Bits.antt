@@ -13,8 +13,8 @@ use Rattle.std.proofs.lemmas.List.FromFn.{length-map-range_with_len, get_or-map-
 use Rattle.std.proofs.lemmas.Nat.{one_shl}
 use Rattle.std.proofs.lemmas.Nat.Bits.{bit_at-zero, bit_at-lt, bit_at_xor, bit_at-pow_same, bit_at-pow_other, shr_and_one}
 use Rattle.span_model.specs.Columns.{Columns, empty, set_of, ◌△◌}
-use Rattle.gf2_span.specs.Words.{is_set, bits_of, IsPadded}
-use Rattle.gf2_span.specs.Rows.{IsFirst}
+use Rattle.gf2_span.specs.Words.{is_set, bits_of, IsPadded, IsLastBelow}
+use Rattle.gf2_span.specs.Rows.{IsFirst, IsLast}
 use Rattle.gf2_span.proofs.Kernels.{none_set}
 
 pub length-bits : (columns : ℕ) (words : List ℕ) → length (bits_of columns words) ≡ columns
@@ -174,10 +174,33 @@ pub past_unset : (words : List ℕ) (c : ℕ) → length words ≤ c / 64 → is
 unfolding is_set
 past_unset words c past = ap (λ w. eqb (bit_at w (c % 64)) 1) (get_or_past words (c / 64) 0 past) ∙ ap (λ b. eqb b 1) (bit_at-zero (c % 64))
 
--- nothing is set below the word of a column where nothing is set below the column
-pub clear_below : (columns : ℕ) (words : List ℕ) (low : ℕ) → IsPadded columns words
-    → ((c : ℕ) → c < low → set_of (bits_of columns words) c ≡ false) → (c : ℕ) → c < 64 * (low / 64) → is_set words c ≡ false
-clear_below columns words low padded none c h = sym (bit-bits columns words padded c) ∙ none c (omega arith)
+-- nothing is set past the word of a column where nothing is set past the column
+pub clear_above : (columns : ℕ) (words : List ℕ) (lead : ℕ) → IsPadded columns words
+    → ((c : ℕ) → lead < c → set_of (bits_of columns words) c ≡ false) → (c : ℕ) → 64 * (lead / 64 + 1) ≤ c → is_set words c ≡ false
+clear_above columns words lead padded none c h = sym (bit-bits columns words padded c) ∙ none c (omega arith)
+
+-- the last bit of the words below the end is the greatest column of the row below it
+pub last_column : (columns : ℕ) (words : List ℕ) (end b : ℕ) → IsPadded columns words → IsLastBelow (is_set words) end b → IsLastBelow (set_of (bits_of columns words)) end b
+last_column columns words end b padded last =
+    let P : Columns ℕ → Type 0 = λ row. IsLastBelow row end b in
+    subst P (sym (set_of-bits columns words padded)) last
+
+pub no_column_below : (columns : ℕ) (words : List ℕ) (end : ℕ) → IsPadded columns words → ((c : ℕ) → c < end → is_set words c ≡ false)
+    → (c : ℕ) → c < end → set_of (bits_of columns words) c ≡ false
+no_column_below columns words end padded none c h = bit-bits columns words padded c ∙ none c h
+
+-- the greatest column of the row below its length is the greatest of all
+pub last_of_all : (row : List Bool) (columns : ℕ) (o : Option ℕ) → columns ≡ length row
+    → MatchOption o ((c : ℕ) → c < columns → set_of row c ≡ false) (λ c. IsLastBelow (set_of row) columns c)
+    → MatchOption o (set_of row ≡ empty) (λ c. (c < length row) × IsLast (set_of row) c)
+last_of_all row columns None e none = fun_ext (λ c. elim (cases_lt c columns) [ inl lt ↦ none c lt | inr ge ↦ get_or_past row c false (omega arith) ])
+last_of_all row columns (Some b) e last = (
+  omega (arith, last.below),
+  record {
+    there = last.there;
+    none_after = λ c after. elim (cases_lt c columns) [ inl lt ↦ last.none_after c after lt | inr ge ↦ get_or_past row c false (omega arith) ];
+  },
+)
 
 -- the first bit of the words is the first column of the row
 pub first_column : (columns : ℕ) (words : List ℕ) (b : ℕ) → IsPadded columns words → IsFirst (is_set words) b
@@ -186,10 +209,6 @@ first_column columns words b padded first =
     let inside : b < columns = elim (cases_lt b columns) [ inl lt ↦ lt | inr ge ↦ absurd (false≢true (sym (padded.clear b ge) ∙ first.there)) ] in
     let P : Columns ℕ → Type 0 = λ row. IsFirst row b in
     (omega (arith, length-bits columns words), subst P (sym (set_of-bits columns words padded)) first)
-
-pub first_in_columns : (columns : ℕ) (words : List ℕ) (b : ℕ) → IsPadded columns words → IsFirst (is_set words) b → b < 2 ^ 32
-first_in_columns columns words b padded first =
-    elim (cases_lt b columns) [ inl lt ↦ omega (arith, padded.small) | inr ge ↦ absurd (false≢true (sym (padded.clear b ge) ∙ first.there)) ]
 
 -- a row of words with no bit is the empty set
 pub no_column : (columns : ℕ) (words : List ℕ) → IsPadded columns words → ((c : ℕ) → is_set words c ≡ false) → set_of (bits_of columns words) ≡ empty

@@ -1,13 +1,13 @@
 -- The loops over words.
-use Rattle.std.proofs.Common.{◌≡◌, ℕ, ◌+◌, ◌-◌, ◌*◌, ◌/◌, ◌%◌, ◌^◌, ◌<◌, ◌≤◌, false, List, length, get_or, bit_xor, eqb, Fits, refl, sym, ap, ◌∙◌, subst, inl, inr, arith}
+use Rattle.std.proofs.Common.{◌≡◌, ℕ, suc, pow-suc, min, bit_and, true, Option, Some, None, MatchOption, ◌+◌, ◌-◌, ◌*◌, ◌/◌, ◌%◌, ◌^◌, ◌<◌, ◌≤◌, false, List, length, get_or, bit_xor, eqb, Fits, refl, sym, ap, ◌∙◌, subst, inl, inr, arith}
 use Rattle.std.specs.Simd.Lanes.{zip2, chunk, put_chunk}
 use Rattle.std.specs.Int.{bit_at, trailing_zeros, w64}
 use Rattle.std.proofs.lemmas.Simd.{length-chunk, length-zip2, length-put_chunk, get_or-zip2, get_or-chunk, get_or-put_chunk_at, get_or-put_chunk_below, get_or-put_chunk_above}
 use Rattle.std.proofs.lemmas.Bool.{cases_lt, eqb-false}
 use Rattle.std.proofs.lemmas.List.{same_lists, get_or_default, get_or_past}
 use Rattle.std.proofs.lemmas.Nat.{xor_comm}
-use Rattle.std.proofs.lemmas.Nat.Bits.{bit_at-zero, bit_at-trailing_zeros, bit_at-lt, same_from_bits_below}
-use Rattle.gf2_span.specs.Words.{is_set}
+use Rattle.std.proofs.lemmas.Nat.Bits.{bit_at-zero, bit_at-trailing_zeros, bit_at-lt, same_from_bits_below, bit_at_and, bit_at_ones, bit_at_ones_above, bit_at_above, bit_at_cat_high}
+use Rattle.gf2_span.specs.Words.{is_set, IsLastBelow}
 use Rattle.gf2_span.specs.Rows.{IsFirst}
 
 -- the words before `at` are those of the sum, and the others are as they were
@@ -51,14 +51,6 @@ lanes_added old other now at same room added =
       ];
       above = λ k h. get_or-put_chunk_above at now sum k 0 (omega arith) ∙ added.above k (omega arith);
     }
-
--- all words
-pub all_added : (old other new : List ℕ) (at : ℕ) → length old ≡ length other → length other ≤ at → IsAddedBelow old other new at → new ≡ zip2 bit_xor old other
-all_added old other new at same past added =
-    let long : length (zip2 bit_xor old other) ≡ length old = length-zip2 bit_xor old other same in
-    same_lists new (zip2 bit_xor old other) (added.long ∙ sym long) (λ k d h.
-    let in_old : k < length old = omega (arith, added.long) in
-    get_or_default new k d 0 h ∙ added.below k (omega arith) ∙ sym (get_or-zip2 bit_xor old other k 0 0 d in_old (omega arith)))
 
 -- zero words have no column
 pub none_set : (words : List ℕ) (at : ℕ) → length words ≤ at → ((k : ℕ) → k < at → get_or words k 0 ≡ 0) → (c : ℕ) → is_set words c ≡ false
@@ -105,20 +97,123 @@ zero_word words k fits none = same_from_bits_below 64 (get_or words k 0) 0 fits 
     let zero_bit : bit_at 0 i ≡ 0 = bit_at-zero i in
     omega (arith, bit_at-lt (get_or words k 0) i))
 
--- the words below the one to start at are zero
-pub zeros_below : (words : List ℕ) (from : ℕ) → ((k : ℕ) → Fits w64 (get_or words k 0)) → ((c : ℕ) → c < 64 * from → is_set words c ≡ false)
-    → (k : ℕ) → k < from → get_or words k 0 ≡ 0
-zeros_below words from fits clear k h = zero_word words k (fits k).fits (λ c e. clear c (omega arith))
-
 xor_zero : (a b : ℕ) → b ≡ 0 → a ≡ bit_xor a b
 xor_zero a b e = rw e (sym (xor_comm a 0))
 
--- nothing has to be added below the word to start at
-pub none_added : (old other : List ℕ) (from : ℕ) → from ≤ length other → ((k : ℕ) → Fits w64 (get_or other k 0)) → ((c : ℕ) → c < 64 * from → is_set other c ≡ false)
-    → IsAddedBelow old other old from
-none_added old other from within fits clear = record {
-  within = within;
+pub none_added : (old other : List ℕ) → IsAddedBelow old other old 0
+none_added old other = record {
+  within = omega arith;
   long = refl;
-  below = λ k h. xor_zero (get_or old k 0) (get_or other k 0) (zeros_below other from fits clear k h);
+  below = λ k h. absurd (omega arith);
   above = λ k h. refl;
+}
+
+-- all words that have a column
+pub all_added : (old other new : List ℕ) (end : ℕ) → length old ≡ length other → ((k : ℕ) → Fits w64 (get_or other k 0)) → ((c : ℕ) → 64 * end ≤ c → is_set other c ≡ false)
+    → IsAddedBelow old other new end → new ≡ zip2 bit_xor old other
+all_added old other new end same fits clear added =
+    let long : length (zip2 bit_xor old other) ≡ length old = length-zip2 bit_xor old other same in
+    same_lists new (zip2 bit_xor old other) (added.long ∙ sym long) (λ k d h.
+    let in_old : k < length old = omega (arith, added.long) in
+    let is : get_or new k 0 ≡ bit_xor (get_or old k 0) (get_or other k 0) = elim (cases_lt k end) [
+      | inl lt ↦ added.below k lt
+      | inr ge ↦ added.above k ge ∙ xor_zero (get_or old k 0) (get_or other k 0) (zero_word other k (fits k).fits (λ c e. clear c (omega arith)))
+    ] in
+    get_or_default new k d 0 h ∙ is ∙ sym (get_or-zip2 bit_xor old other k 0 0 d in_old (omega arith)))
+
+-- ---- the highest one
+
+-- a number from a power of 2 to the next has that power's bit
+top_there : (word j : ℕ) → 2 ^ j ≤ word → word < 2 * 2 ^ j → bit_at word j ≡ 1
+top_there word j low high =
+    let is : 1 * 2 ^ j + (word - 2 ^ j) ≡ word = omega arith in
+    let none : j - j ≡ 0 = omega arith in
+    ap (λ n. bit_at n j) (sym is) ∙ bit_at_cat_high 1 j (word - 2 ^ j) j (omega arith) (omega arith) ∙ ap (λ i. bit_at 1 i) none ∙ refl
+
+top_above : (word j i : ℕ) → word < 2 * 2 ^ j → j < i → bit_at word i ≡ 0
+top_above word j i high above =
+    let next : 2 ^ suc j ≡ 2 ^ j * 2 = pow-suc 2 j in
+    bit_at_above word (suc j) i (omega arith) (omega arith)
+
+low_kept : (b : ℕ) → b < 2 → min b 1 ≡ b
+low_kept b h = omega arith
+
+none_kept : (b : ℕ) → min b 0 ≡ 0
+none_kept b = omega arith
+
+-- the bits of a word below a place
+masked_below : (word rest i : ℕ) → i < rest → bit_at (bit_and word (2 ^ rest - 1)) i ≡ bit_at word i
+masked_below word rest i h =
+    bit_at_and word (2 ^ rest - 1) i ∙ ap (λ x. min (bit_at word i) x) (bit_at_ones rest i h) ∙ low_kept (bit_at word i) (bit_at-lt word i)
+
+masked_above : (word rest i : ℕ) → rest ≤ i → bit_at (bit_and word (2 ^ rest - 1)) i ≡ 0
+masked_above word rest i h = bit_at_and word (2 ^ rest - 1) i ∙ ap (λ x. min (bit_at word i) x) (bit_at_ones_above rest i h) ∙ none_kept (bit_at word i)
+
+-- whether a column is set, by its word and its bit
+set_as : (words : List ℕ) (at i : ℕ) → i < 64 → is_set words (64 * at + i) ≡ eqb (bit_at (get_or words at 0) i) 1
+unfolding is_set
+set_as words at i h =
+    let word_at : (64 * at + i) / 64 ≡ at = omega arith in
+    let bit_in : (64 * at + i) % 64 ≡ i = omega arith in
+    ap (λ j. eqb (bit_at (get_or words j 0) ((64 * at + i) % 64)) 1) word_at ∙ ap (λ j. eqb (bit_at (get_or words at 0) j) 1) bit_in
+
+set_there : (words : List ℕ) (at i : ℕ) → i < 64 → bit_at (get_or words at 0) i ≡ 1 → is_set words (64 * at + i) ≡ true
+set_there words at i h e = set_as words at i h ∙ ap (λ b. eqb b 1) e
+
+set_not : (words : List ℕ) (at c : ℕ) → c / 64 ≡ at → bit_at (get_or words at 0) (c % 64) ≡ 0 → is_set words c ≡ false
+set_not words at c e none =
+    let is : 64 * at + c % 64 ≡ c = omega arith in
+    ap (λ d. is_set words d) (sym is) ∙ set_as words at (c % 64) (omega arith) ∙ ap (λ b. eqb b 1) none
+
+-- the highest one of a word is the last one of the words up to it
+pub last_of_word : (words : List ℕ) (at end b : ℕ) → 64 * (at + 1) ≤ end → ((c : ℕ) → 64 * (at + 1) ≤ c → c < end → is_set words c ≡ false)
+    → b < 64 → 2 ^ b ≤ get_or words at 0 → get_or words at 0 < 2 * 2 ^ b → IsLastBelow (is_set words) end (64 * at + b)
+last_of_word words at end b fits none within low high = record {
+  below = omega arith;
+  there = set_there words at b within (top_there (get_or words at 0) b low high);
+  none_after = λ c after before. elim (cases_lt c (64 * (at + 1))) [
+    | inl here ↦ set_not words at c (omega arith) (top_above (get_or words at 0) b (c % 64) high (omega arith))
+    | inr past ↦ none c past before
+  ];
+}
+
+-- a word that is zero has no column
+pub none_in_word : (words : List ℕ) (at end : ℕ) → get_or words at 0 ≡ 0 → ((c : ℕ) → 64 * (at + 1) ≤ c → c < end → is_set words c ≡ false)
+    → (c : ℕ) → 64 * at ≤ c → c < end → is_set words c ≡ false
+none_in_word words at end e none c low high = elim (cases_lt c (64 * (at + 1))) [
+  | inl here ↦ set_not words at c (omega arith) (ap (λ w. bit_at w (c % 64)) e ∙ bit_at-zero (c % 64))
+  | inr past ↦ none c past high
+]
+
+-- the highest one of the part of a word below the end
+pub last_of_part : (words : List ℕ) (at end b part : ℕ) → at ≡ end / 64 → part ≡ bit_and (get_or words at 0) (2 ^ (end % 64) - 1)
+    → 2 ^ b ≤ part → part < 2 * 2 ^ b → IsLastBelow (is_set words) end (64 * at + b)
+last_of_part words at end b part e is low high =
+    let there : bit_at (bit_and (get_or words at 0) (2 ^ (end % 64) - 1)) b ≡ 1 = ap (λ w. bit_at w b) (sym is) ∙ top_there part b low high in
+    let within : b < end % 64 = elim (cases_lt b (end % 64)) [
+      | inl lt ↦ lt
+      | inr ge ↦ (let zero_bit : bit_at (bit_and (get_or words at 0) (2 ^ (end % 64) - 1)) b ≡ 0 = masked_above (get_or words at 0) (end % 64) b ge in absurd (omega arith))
+    ] in
+    record {
+      below = omega arith;
+      there = set_there words at b (omega arith) (sym (masked_below (get_or words at 0) (end % 64) b within) ∙ there);
+      none_after = λ c after before.
+          set_not words at c (omega arith) (sym (masked_below (get_or words at 0) (end % 64) (c % 64) (omega arith)) ∙ ap (λ w. bit_at w (c % 64)) (sym is) ∙ top_above part b (c % 64) high (omega arith));
+    }
+
+-- the part of a word below the end has no column where it is zero
+pub none_in_part : (words : List ℕ) (at end : ℕ) → at ≡ end / 64 → bit_and (get_or words at 0) (2 ^ (end % 64) - 1) ≡ 0
+    → (c : ℕ) → 64 * at ≤ c → c < end → is_set words c ≡ false
+none_in_part words at end e zero_part c low high =
+    set_not words at c (omega arith) (sym (masked_below (get_or words at 0) (end % 64) (c % 64) (omega arith)) ∙ ap (λ w. bit_at w (c % 64)) zero_part ∙ bit_at-zero (c % 64))
+
+-- the last one up to a place is the last one up to the end, where there is none between
+pub last_wider : (words : List ℕ) (place end : ℕ) (o : Option ℕ) → place ≤ end → ((c : ℕ) → place ≤ c → c < end → is_set words c ≡ false)
+    → MatchOption o ((c : ℕ) → c < place → is_set words c ≡ false) (λ b. IsLastBelow (is_set words) place b)
+    → MatchOption o ((c : ℕ) → c < end → is_set words c ≡ false) (λ b. IsLastBelow (is_set words) end b)
+last_wider words place end None fits none found = λ c h. elim (cases_lt c place) [ inl lt ↦ found c lt | inr ge ↦ none c ge h ]
+last_wider words place end (Some b) fits none found = record {
+  below = omega (arith, found.below);
+  there = found.there;
+  none_after = λ c after before. elim (cases_lt c place) [ inl lt ↦ found.none_after c after lt | inr ge ↦ none c ge before ];
 }

@@ -1,300 +1,147 @@
--- Leading columns, and what rows with different ones span.
-use Rattle.std.proofs.Common.{◌≡◌, ◌⊎◌, ℕ, ◌+◌, ◌-◌, ◌<◌, ◌≤◌, ◌^◌, zero, suc, Bool, true, false, not, List, [], ◌∷◌, ◌++◌, length, get_or, set, map, cond, refl, sym, ap, ◌∙◌, subst, inl, inr, arith, suc-le-suc, Option, Some, None, MatchOption, MatchBool, Bor, take}
+-- Greatest columns, and what rows with different ones span.
+use Rattle.std.proofs.Common.{◌≡◌, ◌⊎◌, ◌↔◌, ℕ, ◌+◌, ◌<◌, ◌≤◌, zero, suc, Bool, true, false, not, List, [], ◌∷◌, ◌++◌, length, get_or, refl, sym, ap, ◌∙◌, subst, inl, inr, arith, suc-le-suc, Option, Some, None, MatchOption, MatchBool, take, is_some}
 use native.Mathlib.Nat.{le_of_suc-le-suc}
 use Rattle.std.specs.Bool.{beq}
-use Rattle.std.specs.List.{count_by, sum_by}
-use Rattle.std.specs.Prelude.{nat_lt}
-use Rattle.std.specs.Option.{is_some, option_copied}
-use Rattle.std.specs.List.{slice_get}
-use Rattle.std.proofs.lemmas.Bool.{cases_lt, cases_eq, cases_order, false≢true, true≢false, lt-ltb}
-use Rattle.std.proofs.lemmas.List.{append-nil, append_assoc, take_all, take_more, length-map, get_or_default, get_or-map, map-append, length-append, get_or_append_left, get_or-append_right, length-set, get_or-set_same, get_or-set_other}
-use Rattle.std.proofs.lemmas.List.Sums.{sum_by-set, count_by-le-length}
+use Rattle.std.proofs.lemmas.Bool.{cases_lt, cases_order, false≢true, true≢false}
+use Rattle.std.proofs.lemmas.List.{append_assoc, take_all, take_more, length-map, get_or_default, get_or-map, map-append}
 use Rattle.span_model.specs.Columns.{Columns, empty, ◌△◌, set_of, sets_of}
 use Rattle.span_model.specs.Span.{difference, InSpan, Spans, SameSpan, IsIndependent, IsSum}
-use Rattle.span_model.proofs.Sets.{△_comm, △_assoc, △_self, △-empty, △_cancel, △_cancel_right}
-use Rattle.span_model.proofs.Members.{empty_in, in_as, in_sum, in_head, in_later, in_behind, in_front, all_in, spans_none, spans_cons, spans_later, spans_both, spans_all, together}
-use Rattle.gf2_span.specs.Rows.{IsFirst}
-use Rattle.gf2_span.specs.Echelon.{lead_of, IsEchelon}
+use Rattle.span_model.proofs.Sets.{△_comm, △-empty, △_cancel, △_cancel_right}
+use Rattle.span_model.proofs.Members.{in_as, in_sum, in_head, in_later, in_behind, in_front, all_in, spans_none, spans_cons, spans_later, spans_both, spans_all, together}
+use Rattle.gf2_span.specs.Rows.{IsLast, HaveOwnLeads, HoldsNoLead, LeadsNoMember, LeadsAreKept}
+use Rattle.gf2_span.specs.Echelon.{LeadsNone}
 
--- ---- the first column of a set
+-- ---- the greatest column of a set
 
-pub first_unique : (v : Columns ℕ) (c d : ℕ) → IsFirst v c → IsFirst v d → c ≡ d
-first_unique v c d at_c at_d = elim (cases_order c d) [
+pub last_unique : (v : Columns ℕ) (c d : ℕ) → IsLast v c → IsLast v d → c ≡ d
+last_unique v c d at_c at_d = elim (cases_order c d) [
   | inl same ↦ same
   | inr other ↦ elim other [
-    | inl less ↦ absurd (false≢true (sym (at_d.none_before c less) ∙ at_c.there))
-    | inr more ↦ absurd (false≢true (sym (at_c.none_before d more) ∙ at_d.there))
+    | inl less ↦ absurd (false≢true (sym (at_c.none_after d less) ∙ at_d.there))
+    | inr more ↦ absurd (false≢true (sym (at_d.none_after c more) ∙ at_c.there))
   ]
 ]
 
-pub first_not_empty : (v : Columns ℕ) (c : ℕ) → IsFirst v c → v ≡ empty → ⊥
-first_not_empty v c first e = false≢true (sym (ap (λ (x : Columns ℕ). x c) e) ∙ first.there)
+pub last_not_empty : (v : Columns ℕ) (c : ℕ) → IsLast v c → v ≡ empty → ⊥
+last_not_empty v c last e = false≢true (sym (ap (λ (x : Columns ℕ). x c) e) ∙ last.there)
 
--- of two sets with different first columns, the lesser one is the first of the sum
-first_sum : (a b : Columns ℕ) (c d : ℕ) → IsFirst a c → IsFirst b d → c < d → IsFirst (a △ b) c
-first_sum a b c d at_c at_d less = record {
-  there = ap (λ x. not (beq x (b c))) at_c.there ∙ ap (λ x. not (beq true x)) (at_d.none_before c less);
-  none_before = λ k h. ap (λ x. not (beq x (b k))) (at_c.none_before k h) ∙ ap (λ x. not (beq false x)) (at_d.none_before k (omega arith));
+pub last_as : (v w : Columns ℕ) (c : ℕ) → v ≡ w → IsLast v c → IsLast w c
+last_as v w c e last = let P : Columns ℕ → Type 0 = λ x. IsLast x c in subst P e last
+
+-- of two sets with different greatest columns, the greater one is that of the sum
+last_sum : (a b : Columns ℕ) (c d : ℕ) → IsLast a c → IsLast b d → d < c → IsLast (a △ b) c
+last_sum a b c d at_c at_d less = record {
+  there = ap (λ x. not (beq x (b c))) at_c.there ∙ ap (λ x. not (beq true x)) (at_d.none_after c less);
+  none_after = λ k h. ap (λ x. not (beq x (b k))) (at_c.none_after k h) ∙ ap (λ x. not (beq false x)) (at_d.none_after k (omega arith));
 }
 
--- ---- the leading column of a row of bits
+-- ---- rows whose greatest columns differ
 
-pub lead_first : (row : List Bool) → lead_of row < length row → IsFirst (set_of row) (lead_of row)
-lead_first [] h = absurd (omega arith)
-lead_first (true ∷ bits) h = record { there = refl; none_before = λ k less. absurd (omega arith) }
-lead_first (false ∷ bits) h =
-    let rest = lead_first bits (le_of_suc-le-suc h) in
-    record { there = rest.there; none_before = before bits (lead_of bits) rest }
-  where
-    before : (bits : List Bool) (c : ℕ) → IsFirst (set_of bits) c → (k : ℕ) → k < suc c → set_of (false ∷ bits) k ≡ false
-    before bits c first zero less = refl
-    before bits c first (suc k) less = first.none_before k (le_of_suc-le-suc less)
+own_tail : (row : Columns ℕ) (rows : List (Columns ℕ)) → HaveOwnLeads (row ∷ rows) → HaveOwnLeads rows
+own_tail row rows own = record {
+  some = λ k h. own.some (suc k) (suc-le-suc h);
+  apart = λ j k c h i at_j at_k. (let e : suc j ≡ suc k = own.apart (suc j) (suc k) c (suc-le-suc h) (suc-le-suc i) at_j at_k in omega arith);
+}
 
-pub first_lead : (row : List Bool) (c : ℕ) → IsFirst (set_of row) c → lead_of row ≡ c
-first_lead [] c first = absurd (false≢true first.there)
-first_lead (true ∷ bits) zero first = refl
-first_lead (true ∷ bits) (suc c) first = absurd (true≢false (first.none_before zero (omega arith)))
-first_lead (false ∷ bits) zero first = absurd (false≢true first.there)
-first_lead (false ∷ bits) (suc c) first =
-    ap suc (first_lead bits c (record { there = first.there; none_before = λ k less. first.none_before (suc k) (suc-le-suc less) }))
+pub own_none : HaveOwnLeads []
+own_none = record { some = λ k h. absurd (omega arith); apart = λ j k c h i at_j at_k. absurd (omega arith) }
 
--- ---- sets with different first columns
-
--- the first columns of the sets, all different
-IsLed : List (Columns ℕ) → List ℕ → Type 0
-IsLed [] leads = Unit {0}
-IsLed (row ∷ rows) [] = ⊥
-IsLed (row ∷ rows) (c ∷ leads) = IsFirst row c × ((k : ℕ) → k < length rows → get_or leads k 0 ≡ c → ⊥) × IsLed rows leads
-
--- a selection picks no row, or its difference begins where one of the rows does
-Chosen : List (Columns ℕ) → List ℕ → List Bool → Type 0
-Chosen rows leads picks =
+-- a selection picks no row, or its difference has the greatest column of one of the rows as its own
+Chosen : List (Columns ℕ) → List Bool → Type 0
+Chosen rows picks =
     ((difference picks rows ≡ empty) × ((k : ℕ) → k < length rows → get_or picks k false ≡ false))
-    ⊎ ((k : ℕ) × (k < length rows) × IsFirst (difference picks rows) (get_or leads k 0))
+    ⊎ ((k : ℕ) × (c : ℕ) × (k < length rows) × IsLast (get_or rows k empty) c × IsLast (difference picks rows) c)
 
-unpicked : (row : Columns ℕ) (rows : List (Columns ℕ)) (c : ℕ) (leads : List ℕ) (picks : List Bool) → Chosen rows leads picks → Chosen (row ∷ rows) (c ∷ leads) (false ∷ picks)
+unpicked : (row : Columns ℕ) (rows : List (Columns ℕ)) (picks : List Bool) → Chosen rows picks → Chosen (row ∷ rows) (false ∷ picks)
 unfolding Chosen
-unpicked row rows c leads picks (inl none) = inl (none.0, nowhere)
+unpicked row rows picks (inl none) = inl (none.0, nowhere)
   where
     nowhere : (k : ℕ) → k < suc (length rows) → get_or (false ∷ picks) k false ≡ false
     nowhere zero h = refl
     nowhere (suc k) h = none.1 k (le_of_suc-le-suc h)
-unpicked row rows c leads picks (inr (k, within, first)) = inr (suc k, suc-le-suc within, first)
+unpicked row rows picks (inr (k, c, within, at_row, at_sum)) = inr (suc k, c, suc-le-suc within, at_row, at_sum)
 
-picked : (row : Columns ℕ) (rows : List (Columns ℕ)) (c : ℕ) (leads : List ℕ) (picks : List Bool)
-    → IsFirst row c → ((k : ℕ) → k < length rows → get_or leads k 0 ≡ c → ⊥) → Chosen rows leads picks → Chosen (row ∷ rows) (c ∷ leads) (true ∷ picks)
+picked : (row : Columns ℕ) (rows : List (Columns ℕ)) (picks : List Bool) → HaveOwnLeads (row ∷ rows) → Chosen rows picks → Chosen (row ∷ rows) (true ∷ picks)
 unfolding Chosen
-picked row rows c leads picks at_c apart (inl none) =
-    let P : Columns ℕ → Type 0 = λ v. IsFirst v c in
-    inr (0, omega arith, subst P (sym (ap (λ x. row △ x) none.0 ∙ △-empty row)) at_c)
-picked row rows c leads picks at_c apart (inr (k, within, first)) = elim (cases_order c (get_or leads k 0)) [
-  | inl same ↦ absurd (apart k within (sym same))
-  | inr other ↦ elim other [
-    | inl less ↦ inr (0, omega arith, first_sum row (difference picks rows) c (get_or leads k 0) at_c first less)
-    | inr more ↦
-        let P : Columns ℕ → Type 0 = λ v. IsFirst v (get_or leads k 0) in
-        inr (suc k, suc-le-suc within, subst P (△_comm (difference picks rows) row) (first_sum (difference picks rows) row (get_or leads k 0) c first at_c more))
-  ]
+picked row rows picks own (inl none) =
+    let lead = own.some 0 (omega arith) in
+    inr (0, lead.0, omega arith, lead.1, last_as row (row △ difference picks rows) lead.0 (sym (ap (λ x. row △ x) none.0 ∙ △-empty row)) lead.1)
+picked row rows picks own (inr (k, c, within, at_row, at_sum)) =
+    let lead = own.some 0 (omega arith) in
+    elim (cases_order lead.0 c) [
+      | inl same ↦
+          let P : ℕ → Type 0 = λ i. IsLast row i in
+          let e : 0 ≡ suc k = own.apart 0 (suc k) c (omega arith) (suc-le-suc within) (subst P same lead.1) at_row in
+          absurd (omega arith)
+      | inr other ↦ elim other [
+        | inl less ↦ inr (
+          suc k,
+          c,
+          suc-le-suc within,
+          at_row,
+          last_as (difference picks rows △ row) (row △ difference picks rows) c (△_comm (difference picks rows) row) (last_sum (difference picks rows) row c lead.0 at_sum lead.1 less),
+        )
+        | inr more ↦ inr (0, lead.0, omega arith, lead.1, last_sum row (difference picks rows) lead.0 c lead.1 at_sum more)
+      ]
+    ]
+
+chosen : (rows : List (Columns ℕ)) → HaveOwnLeads rows → (picks : List Bool) → Chosen rows picks
+unfolding Chosen
+chosen [] own [] = inl (refl, λ k h. refl)
+chosen [] own (pick ∷ picks) = inl (refl, λ k h. absurd (omega arith))
+chosen (row ∷ rows) own [] = inl (refl, λ k h. refl)
+chosen (row ∷ rows) own (false ∷ picks) = unpicked row rows picks (chosen rows (own_tail row rows own) picks)
+chosen (row ∷ rows) own (true ∷ picks) = picked row rows picks own (chosen rows (own_tail row rows own) picks)
+
+pub leads_kept : LeadsAreKept
+unfolding Chosen
+leads_kept rows own v (picks, e) some = elim (chosen rows own picks) [
+  | inl none ↦ absurd (some (sym e ∙ none.0))
+  | inr found ↦ (found.0, found.1, found.2, found.3, last_as (difference picks rows) v found.1 e found.4)
 ]
 
-chosen : (rows : List (Columns ℕ)) (leads : List ℕ) → IsLed rows leads → (picks : List Bool) → Chosen rows leads picks
-unfolding IsLed Chosen
-chosen [] leads led [] = inl (refl, λ k h. refl)
-chosen [] leads led (pick ∷ picks) = inl (refl, λ k h. absurd (omega arith))
-chosen (row ∷ rows) [] led picks = absurd led
-chosen (row ∷ rows) (c ∷ leads) led [] = inl (refl, λ k h. refl)
-chosen (row ∷ rows) (c ∷ leads) led (false ∷ picks) = unpicked row rows c leads picks (chosen rows leads led.2 picks)
-chosen (row ∷ rows) (c ∷ leads) led (true ∷ picks) = picked row rows c leads picks led.0 led.1 (chosen rows leads led.2 picks)
-
--- rows whose places in a table are all different have different leading columns
-led_from : (rows : List (List Bool)) (place : ℕ → ℕ) (n : ℕ)
-    → ((k : ℕ) → k < length rows → lead_of (get_or rows k []) < length (get_or rows k []))
-    → ((k : ℕ) → k < length rows → place (lead_of (get_or rows k [])) ≡ k + n)
-    → IsLed (sets_of rows) (map lead_of rows)
-unfolding IsLed
-led_from [] place n leads placed = tt
-led_from (row ∷ rows) place n leads placed =
-    (lead_first row (leads 0 (omega arith)), apart, led_from rows place (n + 1) (λ k h. leads (suc k) (suc-le-suc h)) (λ k h. placed (suc k) (suc-le-suc h) ∙ omega arith))
-  where
-    apart : (k : ℕ) → k < length (sets_of rows) → get_or (map lead_of rows) k 0 ≡ lead_of row → ⊥
-    apart k h same =
-        let inside : k < length rows = omega (arith, length-map rows set_of) in
-        let here : place (lead_of row) ≡ 0 + n = placed 0 (omega arith) in
-        let there : place (lead_of (get_or rows k [])) ≡ suc k + n = placed (suc k) (suc-le-suc inside) in
-        let e : lead_of (get_or rows k []) ≡ lead_of row = sym (get_or-map lead_of rows k [] 0 inside) ∙ same in
-        let f : place (lead_of row) ≡ suc k + n = ap place (sym e) ∙ there in
-        absurd (omega arith)
-
--- ---- rows in echelon form
-
-echelon_led : (columns : ℕ) (rows : List (List Bool)) (places : List ℕ) → IsEchelon columns rows places → IsLed (sets_of rows) (map lead_of rows)
-echelon_led columns rows places echelon =
-    led_from rows (λ c. get_or places c 0) 1 (λ k h. omega (arith, echelon.leads k h, echelon.wide k h)) echelon.placed
-
-pub echelon_independent : (columns : ℕ) (rows : List (List Bool)) (places : List ℕ) → IsEchelon columns rows places → IsIndependent (sets_of rows)
+pub own_independent : (rows : List (Columns ℕ)) → HaveOwnLeads rows → IsIndependent rows
 unfolding Chosen
-echelon_independent columns rows places echelon picks e = elim (chosen (sets_of rows) (map lead_of rows) (echelon_led columns rows places echelon) picks) [
+own_independent rows own picks e = elim (chosen rows own picks) [
   | inl none ↦ none.1
-  | inr some ↦ absurd (first_not_empty (difference picks (sets_of rows)) (get_or (map lead_of rows) some.0 0) some.2 e)
+  | inr found ↦ absurd (last_not_empty (difference picks rows) found.1 found.4 e)
 ]
 
--- a set whose first column leads no row is not in the span
-pub outside : (columns : ℕ) (rows : List (List Bool)) (places : List ℕ) (v : Columns ℕ) (c : ℕ) → IsEchelon columns rows places → get_or places c 0 ≡ 0 → IsFirst v c → ¬ InSpan (sets_of rows) v
+-- a set whose greatest column is that of no row is not in the span
+pub outside : (rows : List (Columns ℕ)) (v : Columns ℕ) (c : ℕ) → HaveOwnLeads rows → IsLast v c → LeadsNone rows c → ¬ InSpan rows v
 unfolding Chosen
-outside columns rows places v c echelon free first (picks, e) = elim (chosen (sets_of rows) (map lead_of rows) (echelon_led columns rows places echelon) picks) [
-  | inl none ↦ absurd (first_not_empty v c first (sym e ∙ none.0))
-  | inr some ↦
-      let P : Columns ℕ → Type 0 = λ w. IsFirst w (get_or (map lead_of rows) some.0 0) in
-      let inside : some.0 < length rows = omega (arith, some.1, length-map rows set_of) in
-      let same : c ≡ lead_of (get_or rows some.0 []) =
-      first_unique v c (get_or (map lead_of rows) some.0 0) first (subst P e some.2) ∙ get_or-map lead_of rows some.0 [] 0 inside in
-      let placed : get_or places (lead_of (get_or rows some.0 [])) 0 ≡ some.0 + 1 = echelon.placed some.0 inside in
-      let clash : 0 ≡ some.0 + 1 = sym free ∙ ap (λ x. get_or places x 0) same ∙ placed in
-      absurd (omega arith)
+outside rows v c own last free (picks, e) = elim (chosen rows own picks) [
+  | inl none ↦ absurd (last_not_empty v c last (sym e ∙ none.0))
+  | inr found ↦
+      let P : ℕ → Type 0 = λ i. IsLast (get_or rows found.0 empty) i in
+      let same : found.1 ≡ c = last_unique v found.1 c (last_as (difference picks rows) v found.1 e found.4) last in
+      absurd (free found.0 found.2 (subst P same found.3))
 ]
 
--- ---- one more row
+-- a member without any of the greatest columns of the rows is empty
+pub no_lead_empty : (rows : List (Columns ℕ)) (v : Columns ℕ) → HaveOwnLeads rows → InSpan rows v → HoldsNoLead rows v → v ≡ empty
+unfolding Chosen
+no_lead_empty rows v own (picks, e) clear = elim (chosen rows own picks) [
+  | inl none ↦ sym e ∙ none.0
+  | inr found ↦ absurd (false≢true (sym (clear found.0 found.1 found.2 found.3) ∙ (last_as (difference picks rows) v found.1 e found.4).there))
+]
 
--- one more column that leads a row
-counted_more : (places : List ℕ) (c place : ℕ) → c < length places → get_or places c 0 ≡ 0 → 0 < place
-    → count_by (λ p. nat_lt 0 p) (set places c place) ≡ count_by (λ p. nat_lt 0 p) places + 1
-counted_more places c place h free some =
-    let f : ℕ → ℕ = λ p. cond (nat_lt 0 p) 1 0 in
-    let moved : sum_by f (set places c place) + f (get_or places c 0) ≡ sum_by f places + f place = sum_by-set f places c place 0 h in
-    let was : f (get_or places c 0) ≡ 0 = ap f free in
-    let is : f place ≡ 1 = ap (λ b. cond b 1 0) (lt-ltb 0 place some) in
-    let e : sum_by f (set places c place) ≡ sum_by f places + 1 = omega arith in e
+pub no_lead_sum : (rows : List (Columns ℕ)) (v w : Columns ℕ) → HoldsNoLead rows v → HoldsNoLead rows w → HoldsNoLead rows (v △ w)
+no_lead_sum rows v w of_v of_w k c h at = ap (λ x. not (beq x (w c))) (of_v k c h at) ∙ ap (λ x. not (beq false x)) (of_w k c h at)
 
-module _ (columns : ℕ) (rows : List (List Bool)) (places : List ℕ) (row : List Bool) (c : ℕ) (echelon : IsEchelon columns rows places) (wide : length row ≡ columns) (within : c < columns) (first : IsFirst (set_of row) c) (free : get_or places c 0 ≡ 0) where
-  grown_rows : List (List Bool)
-  grown_rows = rows ++ row ∷ []
+pub no_lead_as : (rows : List (Columns ℕ)) (v w : Columns ℕ) → v ≡ w → HoldsNoLead rows v → HoldsNoLead rows w
+no_lead_as rows v w e clear k c h at = ap (λ (x : Columns ℕ). x c) (sym e) ∙ clear k c h at
 
-  grown_places : List ℕ
-  grown_places = set places c (length rows + 1)
+-- the greatest column of a set without any of the rows' greatest columns is that of no row
+pub no_lead_free : (rows : List (Columns ℕ)) (v : Columns ℕ) (c : ℕ) → HoldsNoLead rows v → IsLast v c → LeadsNone rows c
+no_lead_free rows v c clear last k h at = false≢true (sym (clear k c h at) ∙ last.there)
 
-  old_row : (k : ℕ) → k < length rows → get_or (rows ++ row ∷ []) k [] ≡ get_or rows k []
-  old_row k h = get_or_append_left rows (row ∷ []) [] k h
-
-  new_row : (k : ℕ) → k ≡ length rows → get_or (rows ++ row ∷ []) k [] ≡ row
-  new_row k e = get_or-append_right rows (row ∷ []) (length rows) k [] refl (omega arith) ∙ ap (λ i. get_or (row ∷ []) i []) (let z : k - length rows ≡ 0 = omega arith in z)
-
-  old_place : (d : ℕ) → (d ≡ c → ⊥) → get_or (set places c (length rows + 1)) d 0 ≡ get_or places d 0
-  old_place d other = get_or-set_other places c d (length rows + 1) 0 other
-
-  new_place : get_or (set places c (length rows + 1)) c 0 ≡ length rows + 1
-  new_place = let h : c < length places = omega (arith, echelon.table) in get_or-set_same places c (length rows + 1) 0 h
-
-  -- each row is an old one or the new one
-  each_row : (P : ℕ → List Bool → Type 0) → ((k : ℕ) → k < length rows → P k (get_or rows k [])) → P (length rows) row → (k : ℕ) → k < length (rows ++ row ∷ []) → P k (get_or (rows ++ row ∷ []) k [])
-  each_row P old new k h = elim (cases_lt k (length rows)) [
-    | inl less ↦ subst (λ (x : List Bool). P k x) (sym (old_row k less)) (old k less)
-    | inr more ↦
-        let e : length rows ≡ k = omega (arith, length-append rows (row ∷ [])) in
-        subst (λ (x : List Bool). P k x) (sym (new_row k (sym e))) (subst (λ (i : ℕ). P i row) e new)
-  ]
-
-  leads_apart : (k : ℕ) → k < length rows → lead_of (get_or rows k []) ≡ c → ⊥
-  leads_apart k h e =
-      let clash : 0 ≡ k + 1 = sym free ∙ ap (λ i. get_or places i 0) (sym e) ∙ echelon.placed k h in
-      absurd (omega arith)
-
-  -- each column has its old place, or is the new row's leading one
-  each_place : (P : ℕ → ℕ → Type 0) → ((d : ℕ) → (d ≡ c → ⊥) → P d (get_or places d 0)) → P c (length rows + 1) → (d : ℕ) → P d (get_or (set places c (length rows + 1)) d 0)
-  each_place P old new d = elim (cases_eq d c) [
-    | inl same ↦ subst (λ (i : ℕ). P i (get_or (set places c (length rows + 1)) i 0)) (sym same) (subst (λ (p : ℕ). P c p) (sym new_place) new)
-    | inr other ↦ subst (λ (p : ℕ). P d p) (sym (old_place d other)) (old d other)
-  ]
-
-  pub echelon_grows : IsEchelon columns (rows ++ row ∷ []) (set places c (length rows + 1))
-  echelon_grows =
-      let lead : lead_of row ≡ c = first_lead row c first in
-      let longer : length (rows ++ row ∷ []) ≡ length rows + 1 = length-append rows (row ∷ []) in
-      let placed_c : c < length places = omega (arith, echelon.table) in
-      record {
-        small = echelon.small;
-        wide = each_row (λ k r. length r ≡ columns) echelon.wide wide;
-        table = length-set places c (length rows + 1) ∙ echelon.table;
-        leads = each_row (λ k r. lead_of r < columns) echelon.leads (omega arith);
-        placed = each_row (λ k r. get_or (set places c (length rows + 1)) (lead_of r) 0 ≡ k + 1)
-            (λ k h. old_place (lead_of (get_or rows k [])) (leads_apart k h) ∙ echelon.placed k h)
-            (ap (λ i. get_or (set places c (length rows + 1)) i 0) lead ∙ new_place);
-        within = each_place (λ d p. 0 < p → p ≤ length (rows ++ row ∷ [])) (λ d other some. omega (arith, echelon.within d some)) (λ some. omega arith);
-        led = each_place (λ d p. 0 < p → lead_of (get_or (rows ++ row ∷ []) (p - 1) []) ≡ d)
-            (λ d other some.
-            let h : get_or places d 0 - 1 < length rows = omega (arith, echelon.within d some) in
-            ap lead_of (old_row (get_or places d 0 - 1) h) ∙ echelon.led d some)
-            (λ some. ap lead_of (new_row (length rows + 1 - 1) (omega arith)) ∙ lead);
-        counted = counted_more places c (length rows + 1) placed_c free (omega arith) ∙ ap (λ n. n + 1) echelon.counted ∙ sym longer;
-      }
-
-  -- there is a column for each row
-  pub row_fits : length rows + 1 < 2 ^ 32
-  row_fits =
-      let placed_c : c < length places = omega (arith, echelon.table) in
-      let more : count_by (λ p. nat_lt 0 p) (set places c 1) ≡ count_by (λ p. nat_lt 0 p) places + 1 = counted_more places c 1 placed_c free (omega arith) in
-      let most : count_by (λ p. nat_lt 0 p) (set places c 1) ≤ length (set places c 1) = count_by-le-length (λ p. nat_lt 0 p) (set places c 1) in
-      omega (arith, more, most, length-set places c 1, echelon.table, echelon.counted, echelon.small)
-
--- there are at most as many rows as columns
-pub rank_bound : (columns : ℕ) (rows : List (List Bool)) (places : List ℕ) → IsEchelon columns rows places → length rows ≤ columns
-rank_bound columns rows places echelon =
-    let most : count_by (λ p. nat_lt 0 p) places ≤ length places = count_by-le-length (λ p. nat_lt 0 p) places in
-    omega (arith, most, echelon.table, echelon.counted)
-
--- ---- adding the row that a column leads
-
--- what is known while a row is reduced: it differs from what it was by a member of the span, and nothing is set below `low`
-pub record IsReducedBelow (rows : List (List Bool)) (was now : List Bool) (low : ℕ) : Type 0 where
-  pub long : length now ≡ length was
-  pub same : InSpan (sets_of rows) (set_of was △ set_of now)
-  pub clear : (c : ℕ) → c < low → set_of now c ≡ false
-
-pub unreduced : (rows : List (List Bool)) (row : List Bool) → IsReducedBelow rows row row 0
-unreduced rows row = record {
-  long = refl;
-  same = in_as (sets_of rows) (sym (△_self (set_of row))) (empty_in (sets_of rows));
-  clear = λ c h. absurd (omega arith);
-}
+-- ---- members and what is left of them
 
 -- each row is in the span
 pub row_in : (rows : List (List Bool)) (k : ℕ) → k < length rows → InSpan (sets_of rows) (set_of (get_or rows k []))
 row_in rows k h =
     in_as (sets_of rows) (get_or-map set_of rows k [] empty h) (all_in (sets_of rows) k empty (omega (arith, length-map rows set_of)))
-
--- the row that a column leads
-pub led_row : (columns : ℕ) (rows : List (List Bool)) (places : List ℕ) (c : ℕ) → IsEchelon columns rows places → 0 < get_or places c 0
-    → (length (get_or rows (get_or places c 0 - 1) []) ≡ columns) × IsFirst (set_of (get_or rows (get_or places c 0 - 1) [])) c
-led_row columns rows places c echelon some =
-    let k : ℕ = get_or places c 0 - 1 in
-    let inside : get_or places c 0 - 1 < length rows = omega (arith, echelon.within c some) in
-    let wide : length (get_or rows (get_or places c 0 - 1) []) ≡ columns = echelon.wide (get_or places c 0 - 1) inside in
-    let P : ℕ → Type 0 = λ i. IsFirst (set_of (get_or rows (get_or places c 0 - 1) [])) i in
-    (wide, subst P (echelon.led c some) (lead_first (get_or rows (get_or places c 0 - 1) []) (omega (arith, echelon.leads (get_or places c 0 - 1) inside))))
-
--- two sets with one first column cancel there
-cancelled : (v w : Columns ℕ) (c : ℕ) → IsFirst v c → IsFirst w c → (d : ℕ) → d < c + 1 → (v △ w) d ≡ false
-cancelled v w c at_v at_w d h = elim (cases_lt d c) [
-  | inl less ↦ ap (λ x. not (beq x (w d))) (at_v.none_before d less) ∙ ap (λ x. not (beq false x)) (at_w.none_before d less)
-  | inr more ↦
-      let e : c ≡ d = omega arith in
-      let P : ℕ → Type 0 = λ i. (v △ w) i ≡ false in
-      subst P e (ap (λ x. not (beq x (w c))) at_v.there ∙ ap (λ x. not (beq true x)) at_w.there)
-]
-
--- one step of the reduction
-pub reduced_more : (columns : ℕ) (rows : List (List Bool)) (places : List ℕ) (was now new : List Bool) (low c : ℕ)
-    → IsEchelon columns rows places → IsReducedBelow rows was now low → IsFirst (set_of now) c → 0 < get_or places c 0
-    → length new ≡ length now → set_of new ≡ set_of now △ set_of (get_or rows (get_or places c 0 - 1) []) → IsReducedBelow rows was new (c + 1)
-reduced_more columns rows places was now new low c echelon reduced first some long sum =
-    let inside : get_or places c 0 - 1 < length rows = omega (arith, echelon.within c some) in
-    let row : Columns ℕ = set_of (get_or rows (get_or places c 0 - 1) []) in
-    let led = led_row columns rows places c echelon some in
-    record {
-      long = long ∙ reduced.long;
-      same = in_as (sets_of rows) (△_assoc (set_of was) (set_of now) row ∙ ap (λ (x : Columns ℕ). set_of was △ x) (sym sum))
-          (in_sum (sets_of rows) (set_of was △ set_of now) row reduced.same (row_in rows (get_or places c 0 - 1) inside));
-      clear = λ d h. ap (λ (x : Columns ℕ). x d) sum ∙ cancelled (set_of now) row c first led.1 d h;
-    }
 
 -- a set is in the span with what is left of it
 pub left_in : (rows : List (Columns ℕ)) (v w : Columns ℕ) → InSpan rows (v △ w) → w ≡ empty → InSpan rows v
@@ -303,31 +150,24 @@ left_in rows v w h e = in_as rows (ap (λ (x : Columns ℕ). v △ x) e ∙ △-
 pub left_out : (rows : List (Columns ℕ)) (v w : Columns ℕ) → InSpan rows (v △ w) → ¬ InSpan rows w → ¬ InSpan rows v
 left_out rows v w h out m = out (in_as rows (△_cancel v w) (in_sum rows v (v △ w) m h))
 
--- what a reduction reads at a column: the row that the column leads
-pub record IsRead (columns : ℕ) (rows : List (List Bool)) (places : List ℕ) (c : ℕ) (row : List Bool) : Type 0 where
-  pub some : 0 < get_or places c 0
-  pub wide : length row ≡ columns
-  pub first : IsFirst (set_of row) c
-  pub is : row ≡ get_or rows (get_or places c 0 - 1) []
+-- what is left of a set when no greatest column of the rows is left in it is empty exactly for members
+pub left_zero : (rows : List (Columns ℕ)) (v w : Columns ℕ) → HaveOwnLeads rows → InSpan rows (v △ w) → HoldsNoLead rows w → (w ≡ empty) ↔ InSpan rows v
+left_zero rows v w own same clear =
+    (left_in rows v w same, λ m. no_lead_empty rows w own (in_as rows (△_cancel v w) (in_sum rows v (v △ w) m same)) clear)
 
-pub read_row : (columns : ℕ) (rows : List (List Bool)) (places : List ℕ) (c place : ℕ) (row : List Bool) → IsEchelon columns rows places → c < columns
-    → place ≡ get_or places c place → 0 < place → row ≡ get_or rows (place - 1) row → IsRead columns rows places c row
-read_row columns rows places c place row echelon within at some is =
-    let h : c < length places = omega (arith, echelon.table) in
-    let place_is : place ≡ get_or places c 0 = at ∙ get_or_default places c place 0 h in
-    let some_place : 0 < get_or places c 0 = omega arith in
-    let inside : place - 1 < length rows = omega (arith, echelon.within c some_place) in
-    let e : row ≡ get_or rows (get_or places c 0 - 1) [] = is ∙ get_or_default rows (place - 1) row [] inside ∙ ap (λ p. get_or rows (p - 1) []) place_is in
-    let led = led_row columns rows places c echelon some_place in
-    let P : List Bool → Type 0 = λ r. (length r ≡ columns) × IsFirst (set_of r) c in
-    let known : P row = subst P (sym e) led in
-    record { some = some_place; wide = known.0; first = known.1; is = e }
+pub answered : (rows : List (Columns ℕ)) (row new : Columns ℕ) (o : Option ℕ) (none : Bool) → HaveOwnLeads rows
+    → InSpan rows (row △ new) → MatchOption o (new ≡ empty) (λ c. IsLast new c × LeadsNone rows c)
+    → is_some o ≡ not none → MatchBool none (InSpan rows row) (¬ InSpan rows row)
+answered rows row new None true own same rest e = left_in rows row new same rest
+answered rows row new None false own same rest e = absurd (false≢true e)
+answered rows row new (Some c) true own same rest e = absurd (true≢false e)
+answered rows row new (Some c) false own same rest e = left_out rows row new same (outside rows new c own rest.0 rest.1)
 
-pub reduced_by : (columns : ℕ) (rows : List (List Bool)) (places : List ℕ) (was now new row : List Bool) (low c : ℕ)
-    → IsEchelon columns rows places → IsReducedBelow rows was now low → IsFirst (set_of now) c → IsRead columns rows places c row
-    → length new ≡ length now → set_of new ≡ set_of now △ set_of row → IsReducedBelow rows was new (c + 1)
-reduced_by columns rows places was now new row low c echelon reduced first read long sum =
-    reduced_more columns rows places was now new low c echelon reduced first read.some long (sum ∙ ap (λ (r : List Bool). set_of now △ set_of r) read.is)
+-- a greatest column that leads no row is that of no member
+pub no_member_led : (rows : List (Columns ℕ)) (new : Columns ℕ) (o : Option ℕ) → HaveOwnLeads rows → MatchOption o (new ≡ empty) (λ c. IsLast new c × LeadsNone rows c)
+    → MatchOption o (new ≡ empty) (λ c. IsLast new c × LeadsNoMember rows c)
+no_member_led rows new None own rest = rest
+no_member_led rows new (Some c) own rest = (rest.0, λ v member last. outside rows v c own last rest.1 member)
 
 -- ---- a span with one more row
 
@@ -350,32 +190,6 @@ span_grown rows v w h =
 pub span_kept : (rows : List (Columns ℕ)) (v : Columns ℕ) → InSpan rows v → SameSpan rows (v ∷ rows)
 span_kept rows v h = let back : Spans rows (v ∷ rows) = spans_cons rows v rows h (λ u m. m) in λ u. (in_later v rows u, back u)
 
--- ---- what the calls answer
-
-pub answered : (columns : ℕ) (rows : List (List Bool)) (places : List ℕ) (row new : List Bool) (o : Option ℕ) (none : Bool) → IsEchelon columns rows places
-    → InSpan (sets_of rows) (set_of row △ set_of new)
-    → MatchOption o (set_of new ≡ empty) (λ c. (c < length new) × (get_or places c 0 ≡ 0) × IsFirst (set_of new) c)
-    → is_some o ≡ not none → MatchBool none (InSpan (sets_of rows) (set_of row)) (¬ InSpan (sets_of rows) (set_of row))
-answered columns rows places row new None true echelon same rest e = left_in (sets_of rows) (set_of row) (set_of new) same rest
-answered columns rows places row new None false echelon same rest e = absurd (false≢true e)
-answered columns rows places row new (Some c) true echelon same rest e = absurd (true≢false e)
-answered columns rows places row new (Some c) false echelon same rest e =
-    left_out (sets_of rows) (set_of row) (set_of new) same (outside columns rows places (set_of new) c echelon rest.1 rest.2)
-
-pub nonzero_first : (columns : ℕ) (rows : List (List Bool)) (places : List ℕ) (o : Option (Bor (List Bool))) → IsEchelon columns rows places
-    → option_copied o ≡ slice_get rows 0
-    → MatchOption o (rows ≡ []) (λ row. (length row.now ≡ columns) × InSpan (sets_of rows) (set_of row.now) × ((c : ℕ) × (set_of row.now c ≡ true)))
-nonzero_first columns [] places None echelon e = refl
-nonzero_first columns [] places (Some x) echelon e = cc
-nonzero_first columns (row ∷ rows) places None echelon e = cc
-nonzero_first columns (row ∷ rows) places (Some x) echelon e =
-    let h : 0 < length (row ∷ rows) = omega arith in
-    let wide : length row ≡ columns = echelon.wide 0 h in
-    let leads : lead_of row < columns = echelon.leads 0 h in
-    let is : row ≡ x.now = cc in
-    let P : List Bool → Type 0 = λ r. (length r ≡ columns) × InSpan (sets_of (row ∷ rows)) (set_of r) × ((c : ℕ) × (set_of r c ≡ true)) in
-    subst P is (wide, row_in (row ∷ rows) 0 h, (lead_of row, (lead_first row (omega arith)).there))
-
 -- rows that are all in a span are spanned
 pub all_within : (rows : List (Columns ℕ)) (others : List (List Bool)) → ((k : ℕ) → k < length others → InSpan rows (set_of (get_or others k []))) → Spans rows (sets_of others)
 all_within rows others inside = spans_all rows (sets_of others) (λ k d h.
@@ -383,9 +197,6 @@ all_within rows others inside = spans_all rows (sets_of others) (λ k d h.
     in_as rows (sym (get_or-map set_of others k [] d within)) (inside k within))
 
 -- ---- sums
-
-pub sum_begins : (rows : List (Columns ℕ)) (others : List (List Bool)) → SameSpan rows (rows ++ sets_of (take 0 others))
-sum_begins rows others = let e : rows ++ [] ≡ rows = append-nil rows in λ v. rw e (λ h. h, λ h. h)
 
 pub sum_more : (sum new rows : List (Columns ℕ)) (others : List (List Bool)) (i : ℕ) (row : List Bool) → i < length others → row ≡ get_or others i row
     → SameSpan sum (rows ++ sets_of (take i others)) → SameSpan new (set_of row ∷ sum) → SameSpan new (rows ++ sets_of (take (i + 1) others))
@@ -419,19 +230,3 @@ within_more rows others i row h is below here k less = elim (cases_lt k i) [
       let P : ℕ → Type 0 = λ j. InSpan rows (set_of (get_or others j [])) in
       subst P e (in_as rows (ap set_of (is ∙ get_or_default others i row [] h)) here)
 ]
-
-pub read_place : (columns : ℕ) (rows : List (List Bool)) (places : List ℕ) (c place : ℕ) (row : List Bool) → IsEchelon columns rows places → c < columns
-    → place ≡ get_or places c place → 0 < place → row ≡ get_or rows (place - 1) row → (place ≤ length rows) × (row ≡ get_or rows (place - 1) [])
-read_place columns rows places c place row echelon within at some is =
-    let h : c < length places = omega (arith, echelon.table) in
-    let place_is : place ≡ get_or places c 0 = at ∙ get_or_default places c place 0 h in
-    let some_place : 0 < get_or places c 0 = omega arith in
-    let fits : place ≤ length rows = omega (arith, echelon.within c some_place) in
-    (fits, is ∙ get_or_default rows (place - 1) row [] (omega arith))
-
--- a row of the span is as wide as the span
-pub item_wide : (columns : ℕ) (rows : List (List Bool)) (places : List ℕ) (i : ℕ) (row : List Bool) → IsEchelon columns rows places → i < length rows → row ≡ get_or rows i row → length row ≡ columns
-item_wide columns rows places i row echelon h is = ap length (is ∙ get_or_default rows i row [] h) ∙ echelon.wide i h
-
-pub cancels : (v w sum : Columns ℕ) (c : ℕ) → IsFirst v c → IsFirst w c → sum ≡ v △ w → (d : ℕ) → d < c + 1 → sum d ≡ false
-cancels v w sum c at_v at_w e d h = ap (λ (x : Columns ℕ). x d) e ∙ cancelled v w c at_v at_w d h

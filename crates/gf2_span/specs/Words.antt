@@ -1,7 +1,8 @@
 -- Rows as 64-bit words, the lowest bit of the first word being column 0.
-use Rattle.std.specs.Prelude.{◌≡◌, ℕ, Bool, false, List, map, length, ◌+◌, ◌/◌, ◌%◌, ◌≤◌, ◌<◌, ◌^◌, eqb, slice_index}
+use Rattle.std.specs.Prelude.{◌≡◌, ℕ, Bool, true, false, List, map, length, ◌+◌, ◌/◌, ◌%◌, ◌≤◌, ◌<◌, ◌^◌, eqb, slice_index}
 use Rattle.std.specs.Int.{bit_at}
 use Rattle.std.specs.List.{range_with_len}
+use Rattle.span_model.specs.Columns.{Columns}
 
 -- whether a column is set in the words
 unfoldable pub is_set : List ℕ → ℕ → Bool
@@ -16,3 +17,9 @@ pub record IsPadded (columns : ℕ) (words : List ℕ) : Type 0 where
   pub small : columns < 2 ^ 32
   pub long : length words ≡ (columns + 63) / 64
   pub clear : (column : ℕ) → columns ≤ column → is_set words column ≡ false
+
+-- of the columns below the end, the column is the greatest one in the set
+pub record IsLastBelow (row : Columns ℕ) (end column : ℕ) : Type 0 where
+  pub below : column < end
+  pub there : row column ≡ true
+  pub none_after : (after : ℕ) → column < after → after < end → row after ≡ false

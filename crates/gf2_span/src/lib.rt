@@ -9,4 +9,4 @@ mod tests;
 mod words;
 
 pub use row::BitRow;
-pub use span::Span;
+pub use span::{Span, leads_are_kept};

@@ -1,8 +1,9 @@
 ghost use Rattle.std.specs.Prelude.{◌≡◌, ◌≢◌, ℕ, ◌<◌, ◌≤◌, ◌↔◌, length, not, true, false, slice_index_or, slice_set, replicate, IsTrue, IfOk, MatchOption};
 ghost use Rattle.span_model.specs.Columns.{set_of, empty, ◌△◌};
-ghost use Rattle.gf2_span.specs.Rows.{IsFirst};
+ghost use Rattle.gf2_span.specs.Rows.{IsFirst, IsLast};
+ghost use Rattle.gf2_span.specs.Words.{IsLastBelow};
 
-use crate::words::{add_words, first_bit};
+use crate::words::{add_words, first_bit, last_bit};
 use std::alloc::{AllocError, Global};
 use std::marker::Model;
 
@@ -73,7 +74,7 @@ impl BitRow {
         ensures columns { length self.new ≡ length self.old }
         ensures sum { set_of self.new ≡ set_of self.old △ set_of other.now }
     {
-        self.add_from(other, 0);
+        add_words(&mut self.words, &other.words, other.words.len());
     }
 
     pub fn is_zero(&self) -> bool
@@ -86,26 +87,36 @@ impl BitRow {
     pub fn first(&self) -> Option<u32>
         ensures { MatchOption result (set_of self.now ≡ empty) (λ c. (c < length self.now) × IsFirst (set_of self.now) c) }
     {
-        self.first_from(0)
+        match first_bit(&self.words) {
+            Some(c) => Some(c as u32),
+            None => None,
+        }
     }
 
-    // `add` where the other row is known to have no column below `low`.
-    pub(crate) fn add_from(&mut self, other: &BitRow, low: u32)
+    /// The greatest column.
+    pub fn last(&self) -> Option<u32>
+        ensures { MatchOption result (set_of self.now ≡ empty) (λ c. (c < length self.now) × IsLast (set_of self.now) c) }
+    {
+        self.last_before(self.columns)
+    }
+
+    // `add` where the other row is known to have no column past `lead`.
+    pub(crate) fn add_to(&mut self, other: &BitRow, lead: u32)
         requires same { length self.old ≡ length other.now }
-        requires within { low ≤ length self.old }
-        requires clear { (c : ℕ) → c < low → set_of other.now c ≡ false }
+        requires within { lead < length self.old }
+        requires clear { (c : ℕ) → lead < c → set_of other.now c ≡ false }
         ensures columns { length self.new ≡ length self.old }
         ensures sum { set_of self.new ≡ set_of self.old △ set_of other.now }
     {
-        add_words(&mut self.words, &other.words, low as usize / 64);
+        add_words(&mut self.words, &other.words, lead as usize / 64 + 1);
     }
 
-    // `first` where the row is known to have no column below `low`.
-    pub(crate) fn first_from(&self, low: u32) -> Option<u32>
-        requires clear { (c : ℕ) → c < low → set_of self.now c ≡ false }
-        ensures { MatchOption result (set_of self.now ≡ empty) (λ c. (c < length self.now) × IsFirst (set_of self.now) c) }
+    // The greatest column below `end`.
+    pub(crate) fn last_before(&self, end: u32) -> Option<u32>
+        requires { end ≤ length self.now }
+        ensures { MatchOption result ((c : ℕ) → c < end → set_of self.now c ≡ false) (λ c. IsLastBelow (set_of self.now) end c) }
     {
-        match first_bit(&self.words, low as usize / 64) {
+        match last_bit(&self.words, end as usize) {
             Some(c) => Some(c as u32),
             None => None,
         }

@@ -1,6 +1,6 @@
 ghost use Rattle.std.specs.Prelude.{◌≡◌, length, IfOk};
 
-use crate::{BitRow, Span};
+use crate::{BitRow, Span, leads_are_kept};
 use std::alloc::{AllocError, Global};
 use std::process::Abort;
 use std::test::Fail;
@@ -27,10 +27,11 @@ fn span_of(alloc: Global, columns: u32, rows: &[&[u32]]) -> Result<Span, AllocEr
     Ok(span)
 }
 
-// The row has these columns, the first one first, and no other.
+// The row has these columns, in ascending order, and no other.
 fn expect_columns(rt: &impl Abort, row: &BitRow, columns: u32, set: &[u32]) {
     assert_eq!(rt; row.columns(), columns);
     assert_eq!(rt; row.first(), set.first().copied());
+    assert_eq!(rt; row.last(), set.last().copied());
     assert_eq!(rt; row.is_zero(), set.is_empty());
     for c in 0..columns {
         assert_eq!(rt; row.has(c), set.contains(&c));
@@ -161,4 +162,112 @@ fn a_copy_of_a_span_grows_on_its_own(rt: HostRuntime) -> Result<(), Fail> {
     assert!(rt; copy.contains(&row_of(alloc, 64, &[0])?, &mut scratch));
     assert!(rt; !span.contains(&row_of(alloc, 64, &[0])?, &mut scratch));
     Ok(())
+}
+
+#[test]
+fn the_greatest_column_is_found_in_each_word(rt: HostRuntime) -> Result<(), Fail> {
+    let alloc = rt.alloc();
+    let row = row_of(alloc, 193, &[3, 60, 63, 64, 120, 192])?;
+    expect_columns(&rt, &row, 193, &[3, 60, 63, 64, 120, 192]);
+    let row = row_of(alloc, 193, &[3, 60])?;
+    expect_columns(&rt, &row, 193, &[3, 60]);
+    let row = row_of(alloc, 192, &[191])?;
+    expect_columns(&rt, &row, 192, &[191]);
+    Ok(())
+}
+
+// The rows {5, 2} and {4, 1} lead at 5 and 4: {5, 4, 3, 1} goes to {3, 2}, below whose greatest column none leads.
+#[test]
+fn a_reduction_goes_on_below_columns_that_lead_no_row(rt: HostRuntime) -> Result<(), Fail> {
+    let alloc = rt.alloc();
+    let span = span_of(alloc, 6, &[&[1, 4], &[2, 5]])?;
+    let mut row = row_of(alloc, 6, &[1, 3, 4, 5])?;
+    span.reduce(&mut row);
+    expect_columns(&rt, &row, 6, &[2, 3]);
+
+    let lower = span_of(alloc, 6, &[&[0, 2], &[1, 4]])?;
+    let mut row = row_of(alloc, 6, &[2, 4, 5])?;
+    lower.reduce(&mut row);
+    expect_columns(&rt, &row, 6, &[0, 1, 5]);
+
+    let mut row = row_of(alloc, 6, &[0, 2])?;
+    lower.reduce(&mut row);
+    expect_columns(&rt, &row, 6, &[]);
+    Ok(())
+}
+
+// The rows {5, 2} and {4, 1} lead at 5 and 4: {5, 4, 3, 1} goes to {3, 2}. A row whose greatest column leads no row stays as it is.
+#[test]
+fn the_last_column_alone_is_reduced(rt: HostRuntime) -> Result<(), Fail> {
+    let alloc = rt.alloc();
+    let span = span_of(alloc, 6, &[&[1, 4], &[2, 5]])?;
+    let mut row = row_of(alloc, 6, &[1, 3, 4, 5])?;
+    assert_eq!(rt; span.reduce_last(&mut row), Some(3));
+    expect_columns(&rt, &row, 6, &[2, 3]);
+
+    let lower = span_of(alloc, 6, &[&[0, 2], &[1, 4]])?;
+    let mut row = row_of(alloc, 6, &[2, 4, 5])?;
+    assert_eq!(rt; lower.reduce_last(&mut row), Some(5));
+    expect_columns(&rt, &row, 6, &[2, 4, 5]);
+
+    let mut row = row_of(alloc, 6, &[0, 2])?;
+    assert_eq!(rt; lower.reduce_last(&mut row), None);
+    expect_columns(&rt, &row, 6, &[]);
+    Ok(())
+}
+
+#[test]
+fn traces_follow_the_rows_that_are_added(rt: HostRuntime) -> Result<(), Fail> {
+    let alloc = rt.alloc();
+    let mut span = Span::new(alloc, 6)?;
+    let mut traces = Vec::new(alloc);
+    assert!(rt; span.insert(row_of(alloc, 6, &[1, 4])?)?);
+    traces.push(row_of(alloc, 2, &[0])?)?;
+    assert!(rt; span.insert(row_of(alloc, 6, &[2, 5])?)?);
+    traces.push(row_of(alloc, 2, &[1])?)?;
+    let mut trace = BitRow::new(alloc, 2)?;
+    let mut row = row_of(alloc, 6, &[0, 5])?;
+    if traces.len() == span.rank() as usize {
+        span.reduce_traced(&mut row, &traces, &mut trace);
+    }
+    expect_columns(&rt, &row, 6, &[0, 2]);
+    expect_columns(&rt, &trace, 2, &[1]);
+    Ok(())
+}
+
+// Over six columns: the members of the span of {0, 1} and {2, 3} that are a sum of one of the span of
+// {0, 4} and one of that of {1, 4} and {5} are the empty set and {0, 1}.
+#[test]
+fn meets_with_a_sum(rt: HostRuntime) -> Result<(), Fail> {
+    let alloc = rt.alloc();
+    let a = span_of(alloc, 6, &[&[0, 1], &[2, 3]])?;
+    let base = span_of(alloc, 6, &[&[1, 4], &[5]])?;
+    let mut rows = Vec::new(alloc);
+    rows.push(row_of(alloc, 6, &[0, 4])?)?;
+    let meet = Span::meet_sum(alloc, &a, rows.as_slice(), &base)?;
+    assert_eq!(rt; meet.rank(), 1);
+    let member = meet.first_nonzero().ok_or("a member")?;
+    expect_columns(&rt, member, 6, &[0, 1]);
+
+    assert_eq!(rt; Span::meet_sum(alloc, &a, &[], &base)?.rank(), 0);
+    let none = Span::new(alloc, 6)?;
+    assert_eq!(rt;
+        Span::meet_sum(alloc, &none, rows.as_slice(), &base)?.rank(),
+        0
+    );
+    assert_eq!(rt;
+        Span::meet_sum(alloc, &a, rows.as_slice(), &none)?.rank(),
+        0
+    );
+
+    assert!(rt; base.spans_with(alloc, rows.as_slice(), &row_of(alloc, 6, &[0, 1, 5])?)?);
+    assert!(rt; base.spans_with(alloc, rows.as_slice(), &row_of(alloc, 6, &[1, 4, 5])?)?);
+    assert!(rt; !base.spans_with(alloc, rows.as_slice(), &row_of(alloc, 6, &[0, 1, 2])?)?);
+    assert!(rt; !base.spans_with(alloc, &[], &row_of(alloc, 6, &[0, 1])?)?);
+    Ok(())
+}
+
+#[test]
+fn the_law_of_leads_can_be_called(_rt: HostRuntime) {
+    leads_are_kept();
 }

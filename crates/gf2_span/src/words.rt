@@ -2,7 +2,7 @@
 ghost use Rattle.std.specs.Prelude.{◌≡◌, ℕ, ◌+◌, ◌*◌, ◌<◌, ◌≤◌, ◌^◌, ◌≢◌, length, slice_index, vec_len, bit_xor, MatchOption, false};
 ghost use Rattle.std.specs.Simd.Lanes.{zip2, chunk, put_chunk};
 ghost use Rattle.gf2_span.specs.Rows.{IsFirst};
-ghost use Rattle.gf2_span.specs.Words.{is_set};
+ghost use Rattle.gf2_span.specs.Words.{is_set, IsLastBelow};
 
 use std::simd::prelude::*;
 
@@ -19,42 +19,40 @@ fn add_lanes(words: &mut [u64], other: &[u64], at: usize)
     sum.copy_to_slice(&mut words[at..]);
 }
 
-// Adds `other` to `words`, word by word, where the words of `other` below `from` are known to be zero.
-fn add_slice(words: &mut [u64], other: &[u64], from: usize)
+// Adds `other` to `words`, word by word, where the words of `other` from `end` on are known to be zero.
+fn add_slice(words: &mut [u64], other: &[u64], end: usize)
     requires same { length words.old ≡ length other.now }
-    requires within { from ≤ length other.now }
-    requires clear { (c : ℕ) → c < 64 * from → is_set other.now c ≡ false }
+    requires within { end ≤ length other.now }
+    requires clear { (c : ℕ) → 64 * end ≤ c → is_set other.now c ≡ false }
     ensures { words.new ≡ zip2 bit_xor words.old other.now }
 {
-    let len = other.len();
-    let mut at = from;
-    while len - at >= LANES {
+    let mut at = 0;
+    while end - at >= LANES {
         add_lanes(words, other, at);
         at += LANES;
     }
-    while at < len {
+    while at < end {
         words[at] ^= other[at];
         at += 1;
     }
 }
 
 // The same in a `Vec`.
-pub(crate) fn add_words(words: &mut Vec<u64>, other: &[u64], from: usize)
+pub(crate) fn add_words(words: &mut Vec<u64>, other: &[u64], end: usize)
     requires same { vec_len words.old ≡ length other.now }
-    requires within { from ≤ length other.now }
-    requires clear { (c : ℕ) → c < 64 * from → is_set other.now c ≡ false }
+    requires within { end ≤ length other.now }
+    requires clear { (c : ℕ) → 64 * end ≤ c → is_set other.now c ≡ false }
     ensures { words.new.items ≡ zip2 bit_xor words.old.items other.now }
 {
-    add_slice(words.as_mut_slice(), other, from);
+    add_slice(words.as_mut_slice(), other, end);
 }
 
-// The place of the first one, where the words below `from` are known to be zero.
-pub(crate) fn first_bit(words: &[u64], from: usize) -> Option<usize>
-    requires short { length words.now < 2 ^ 32 }
-    requires clear { (c : ℕ) → c < 64 * from → is_set words.now c ≡ false }
+// The place of the first one.
+pub(crate) fn first_bit(words: &[u64]) -> Option<usize>
+    requires { length words.now < 2 ^ 32 }
     ensures { MatchOption result ((c : ℕ) → is_set words.now c ≡ false) (λ b. IsFirst (is_set words.now) b) }
 {
-    let mut at = from;
+    let mut at = 0;
     while at < words.len() {
         let word = words[at];
         if word != 0 {
@@ -63,4 +61,39 @@ pub(crate) fn first_bit(words: &[u64], from: usize) -> Option<usize>
         at += 1;
     }
     None
+}
+
+// The place of the last one in so many words.
+fn last_in_words(words: &[u64], many: usize) -> Option<usize>
+    requires short { length words.now < 2 ^ 32 }
+    requires within { many ≤ length words.now }
+    ensures { MatchOption result ((c : ℕ) → c < 64 * many → is_set words.now c ≡ false) (λ b. IsLastBelow (is_set words.now) (64 * many) b) }
+{
+    let mut at = many;
+    while at > 0 {
+        at -= 1;
+        let word = words[at];
+        if word != 0 {
+            return Some(64 * at + word.ilog2() as usize);
+        }
+    }
+    None
+}
+
+// The place of the last one below `end`.
+pub(crate) fn last_bit(words: &[u64], end: usize) -> Option<usize>
+    requires short { length words.now < 2 ^ 32 }
+    requires within { end ≤ 64 * length words.now }
+    ensures { MatchOption result ((c : ℕ) → c < end → is_set words.now c ≡ false) (λ b. IsLastBelow (is_set words.now) end b) }
+{
+    let whole = end / 64;
+    let rest = end % 64;
+    if rest == 0 {
+        return last_in_words(words, whole);
+    }
+    let word = words[whole] & ((1 << rest) - 1);
+    if word != 0 {
+        return Some(64 * whole + word.ilog2() as usize);
+    }
+    last_in_words(words, whole)
 }

@@ -1,6 +1,6 @@
 use Rattle.std.proofs.Common.{◌<◌, ◌^◌, get_or, arith}
 use Rattle.gf2_span.proofs.words.first_bit.Goals as goal
-use Rattle.gf2_span.proofs.Kernels.{none_set, first_found, zeros_below}
+use Rattle.gf2_span.proofs.Kernels.{none_set, first_found}
 
 pub returns-then-word-ne0 : goal.returns-then-word-ne0
 returns-then-word-ne0 c =
@@ -10,6 +10,3 @@ returns-then-word-ne0 c =
 
 pub returns : goal.returns
 returns c = none_set c.args.words.now c.loop-at.at (omega arith) c.loop-at.invariant
-
-pub loop-at-init : goal.loop-at-init
-loop-at-init c = zeros_below c.args.words.now c.args.from c.type_inv.words c.requires.clear

@@ -1,15 +1,15 @@
 use Rattle.std.proofs.Common.{ℕ, List, false, ◌≡◌, ◌+◌, ◌/◌, ◌≤◌, sym, ◌∙◌, subst, ◌<◌, length, arith}
 use Rattle.span_model.specs.Columns.{set_of}
 use Rattle.gf2_span.specs.Words.{bits_of, IsPadded}
-use Rattle.gf2_span.proofs.Bits.{length-bits, sum_padded, set_of-sum, clear_below}
-use Rattle.gf2_span.proofs.row.BitRow.add_from.Goals as goal
+use Rattle.gf2_span.proofs.Bits.{length-bits, sum_padded, set_of-sum, clear_above}
+use Rattle.gf2_span.proofs.row.BitRow.add_to.Goals as goal
 
 -- rows as long have as many words
 as_long : (a b : ℕ) (words others : List ℕ) → length (bits_of a words) ≡ length (bits_of b others) → a ≡ b
 as_long a b words others same = sym (length-bits a words) ∙ same ∙ length-bits b others
 
-in_words : (columns low : ℕ) (words : List ℕ) → low ≤ length (bits_of columns words) → length words ≡ (columns + 63) / 64 → low / 64 ≤ length words
-in_words columns low words h long = omega (arith, length-bits columns words)
+in_words : (columns lead : ℕ) (words : List ℕ) → lead < length (bits_of columns words) → length words ≡ (columns + 63) / 64 → lead / 64 + 1 ≤ length words
+in_words columns lead words h long = omega (arith, length-bits columns words)
 
 pub add_words-requires-clause-same : goal.add_words-requires-clause-same
 add_words-requires-clause-same c =
@@ -21,13 +21,13 @@ add_words-requires-clause-same c =
 pub add_words-requires-clause-within : goal.add_words-requires-clause-within
 add_words-requires-clause-within c =
     let same : length (bits_of c.self.inside.columns c.self.inside.words.items) ≡ length (bits_of c.other.inside.columns c.other.inside.words.items) = rw (c.self.view_is, c.other.view_is) c.requires.same in
-    let low : c.args.low ≤ length (bits_of c.self.inside.columns c.self.inside.words.items) = rw c.self.view_is c.requires.within in
-    rw c.deref.ensures.value (in_words c.other.inside.columns c.args.low c.other.inside.words.items (omega arith) c.other.invariant.long)
+    let lead : c.args.lead < length (bits_of c.self.inside.columns c.self.inside.words.items) = rw c.self.view_is c.requires.within in
+    rw c.deref.ensures.value (in_words c.other.inside.columns c.args.lead c.other.inside.words.items (omega arith) c.other.invariant.long)
 
 pub add_words-requires-clause-clear : goal.add_words-requires-clause-clear
 add_words-requires-clause-clear c =
-    let clear : (d : ℕ) → d < c.args.low → set_of (bits_of c.other.inside.columns c.other.inside.words.items) d ≡ false = rw c.other.view_is c.requires.clear in
-    rw c.deref.ensures.value (clear_below c.other.inside.columns c.other.inside.words.items c.args.low c.other.invariant clear)
+    let clear : (d : ℕ) → c.args.lead < d → set_of (bits_of c.other.inside.columns c.other.inside.words.items) d ≡ false = rw c.other.view_is c.requires.clear in
+    rw c.deref.ensures.value (clear_above c.other.inside.columns c.other.inside.words.items c.args.lead c.other.invariant clear)
 
 -- what is known of the other row's words, at this row's columns
 other_padded : (a b : ℕ) (words others : List ℕ) → length (bits_of a words) ≡ length (bits_of b others) → IsPadded b others → IsPadded a others

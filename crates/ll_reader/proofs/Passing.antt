@@ -9,7 +9,7 @@ use Rattle.std.proofs.lemmas.Option.{same_Some, none-some, slice_get-get_or}
 use Rattle.ll_reader.specs.declared.grammar.Frame.{Frame}
 use Rattle.ll_reader.specs.declared.grammar.Production.{Production}
 use Rattle.ll_reader.specs.Derivation.{items}
-use Rattle.ll_reader.specs.Predictive.{Facts, no_facts, facts_of, is_within, lead_of, can_all_be_empty, weight_of, height_of, is_linked, fits, is_apart, are_apart, production_of, all_end, passes, passes_within, learn_all, follow_all, first_facts, IsPredictive}
+use Rattle.ll_reader.specs.Predictive.{Facts, no_facts, facts_of, is_within, lead_of, can_all_be_empty, weight_of, height_of, is_linked, fits, is_apart, are_apart, production_of, all_end, passes, may_pass, passes_within, learn_all, follow_all, first_facts, IsPredictive}
 
 -- the class is in the set
 abbrev pub In : ℕ → ℕ → Type 0
@@ -125,22 +125,21 @@ pub record Passed (facts : List Facts) (start end : ℕ) (table : List Productio
   pub choice : (j k : ℕ) (p q : Production) (c : ℕ) → slice_get table j ≡ Some p → slice_get table k ≡ Some q → p.rule ≡ q.rule → In c p.first → In c q.first → j ≡ k
   pub ending : (a : ℕ) → a < length facts → EndsAt table facts a
 
-passed : (facts : List Facts) (start end : ℕ) (table : List Production) → passes facts start end table ≡ true → Passed facts start end table
-passed facts start end table h =
+passed : (facts : List Facts) (start end : ℕ) (table : List Production) → are_apart table ≡ true → passes facts start end table ≡ true → Passed facts start end table
+passed facts start end table apart h =
     let a = and_parts _ _ h in
     let b = and_parts _ _ a.0 in
     let c = and_parts _ _ b.0 in
     let d = and_parts _ _ c.0 in
-    let e = and_parts _ _ d.0 in
     record {
-      few = ltb-true (length table) 65536 e.0;
-      start_known = ltb-true start (length facts) e.1;
-      end_follows = within_in (2 ^ end) (facts_of facts start).follow end d.1 (pow_in end);
-      each = λ k p at. fits_Fits facts end p (all_get (fits facts end) table k p c.1 at);
+      few = ltb-true (length table) 65536 d.0;
+      start_known = ltb-true start (length facts) d.1;
+      end_follows = within_in (2 ^ end) (facts_of facts start).follow end c.1 (pow_in end);
+      each = λ k p at. fits_Fits facts end p (all_get (fits facts end) table k p b.1 at);
       choice = λ j k p q c at other same one both. elim (cases_order j k) [
         | inl equal ↦ equal
-        | inr (inl below) ↦ absurd (apart_choice p q c (apart_at table j k p q b.1 at other below) same one both)
-        | inr (inr above) ↦ absurd (apart_choice q p c (apart_at table k j q p b.1 other at above) (sym same) both one)
+        | inr (inl below) ↦ absurd (apart_choice p q c (apart_at table j k p q apart at other below) same one both)
+        | inr (inr above) ↦ absurd (apart_choice q p c (apart_at table k j q p apart other at above) (sym same) both one)
       ];
       ending = λ i inside. let e : 0 + i ≡ i = omega arith in subst (EndsAt table facts) e (ends_at table facts facts 0 i a.1 inside (ap (facts_of facts) (sym e)));
     }
@@ -151,17 +150,33 @@ settled zero facts start end table = facts
 settled (suc n) facts start end table =
     elim (passes facts start end table) [ true ↦ facts | false ↦ settled n (follow_all (learn_all facts 0 table) table) start end table ]
 
+of_more : (b rest : Bool) → (elim b [ true ↦ rest | false ↦ false ]) ≡ true → rest ≡ true
+of_more true rest h = h
+of_more false rest h = cc
+
 settles : (n : ℕ) (facts : List Facts) (start end : ℕ) (table : List Production) → passes_within n facts start end table ≡ true → passes (settled n facts start end table) start end table ≡ true
 unfolding settled
 settles zero facts start end table h = cc
 settles (suc n) facts start end table h =
     let next = follow_all (learn_all facts 0 table) table in
-    let Goal : Bool → Type 0 = λ b. passes facts start end table ≡ b → (elim b [ true ↦ true | false ↦ passes_within n next start end table ]) ≡ true → passes (elim b [ true ↦ facts | false ↦ settled n next start end table ]) start end table ≡ true in
-    (elim (passes facts start end table) as Goal [ true ↦ λ is _. is | false ↦ λ _ rest. settles n next start end table rest ]) refl h
+    let more : Bool = elim (may_pass facts table) [ true ↦ passes_within n next start end table | false ↦ false ] in
+    let Goal : Bool → Type 0 = λ b. passes facts start end table ≡ b → (elim b [ true ↦ true | false ↦ more ]) ≡ true → passes (elim b [ true ↦ facts | false ↦ settled n next start end table ]) start end table ≡ true in
+    (elim (passes facts start end table) as Goal [
+      | true ↦ λ is _. is
+      | false ↦ λ _ rest. settles n next start end table (of_more (may_pass facts table) (passes_within n next start end table) rest)
+    ]) refl h
 
 pub known_of : List Production → Frame → List Facts
 known_of table frame = settled (length table) (first_facts frame.start frame.end table) frame.start frame.end table
 
 pub table_passed : (table : List Production) (frame : Frame) → IsPredictive table frame → Passed (known_of table frame) frame.start frame.end table
 unfolding known_of IsPredictive
-table_passed table frame h = passed (known_of table frame) frame.start frame.end table (settles (length table) (first_facts frame.start frame.end table) frame.start frame.end table h)
+table_passed table frame h =
+    let facts = first_facts frame.start frame.end table in
+    let Goal : Bool → Type 0 = λ b. are_apart table ≡ b
+    → (elim b [ true ↦ passes_within (length table) facts frame.start frame.end table | false ↦ false ]) ≡ true
+    → Passed (known_of table frame) frame.start frame.end table in
+    (elim (are_apart table) as Goal [
+      | true ↦ λ apart passes. passed (known_of table frame) frame.start frame.end table apart (settles (length table) facts frame.start frame.end table passes)
+      | false ↦ λ _ never. cc
+    ]) refl h

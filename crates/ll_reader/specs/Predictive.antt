@@ -102,11 +102,11 @@ all_end table facts a (known ∷ others) =
     nat_lt known.ending (length table) && ((production_of table known.ending).rule == a) &&
     nat_le (height_of facts (items (production_of table known.ending))) known.height && all_end table facts (a + 1) others
 
--- the table passes with what is known of its rules
+-- the table passes with what is known of its rules, apart from whether its productions stand apart
 abbrev pub passes : List Facts → ℕ → ℕ → List Production → Bool
 passes facts start end table =
     nat_lt (length table) (2 ^ 16) && nat_lt start (length facts) && is_within (2 ^ end) (facts_of facts start).follow &&
-    list_all (fits facts end) table && are_apart table && all_end table facts 0 facts
+    list_all (fits facts end) table && all_end table facts 0 facts
 
 -- what a production says of its own rule, with its number
 abbrev pub learn : List Facts → ℕ → Production → List Facts
@@ -144,12 +144,19 @@ abbrev pub last_rule : List Production → ℕ
 last_rule [] = 0
 last_rule (p ∷ ps) = max p.rule (last_rule ps)
 
+-- no production begins with a class at which it is not chosen: more rounds only add to what is known, so where one does
+-- the table cannot pass
+abbrev pub may_pass : List Facts → List Production → Bool
+may_pass facts table = list_all (λ p. is_within (lead_of facts (facts_of facts p.rule).follow (items p)) p.first) table
+
 -- the table passes with what is known, or with what it says in some more rounds
 abbrev pub passes_within : ℕ → List Facts → ℕ → ℕ → List Production → Bool
 passes_within zero facts start end table = false
 passes_within (suc n) facts start end table =
-    elim (passes facts start end table)
-    [ true ↦ true | false ↦ passes_within n (follow_all (learn_all facts 0 table) table) start end table ]
+    elim (passes facts start end table) [
+      | true ↦ true
+      | false ↦ elim (may_pass facts table) [ true ↦ passes_within n (follow_all (learn_all facts 0 table) table) start end table | false ↦ false ]
+    ]
 
 -- what is known at first: the end class stands behind the start rule
 abbrev pub first_facts : ℕ → ℕ → List Production → List Facts
@@ -160,4 +167,5 @@ first_facts start end table =
 -- the end class stands in no production. `refl` proves it for a table, under `unfolding IsPredictive`.
 unfoldable pub IsPredictive : List Production → Frame → Type 0
 IsPredictive table frame =
-    IsTrue (passes_within (length table) (first_facts frame.start frame.end table) frame.start frame.end table)
+    IsTrue (elim (are_apart table)
+    [ true ↦ passes_within (length table) (first_facts frame.start frame.end table) frame.start frame.end table | false ↦ false ])

@@ -1,5 +1,6 @@
 ghost use Rattle.std.specs.Prelude.{◌≡◌, ℕ, ◌+◌, ◌<◌, ◌≤◌, ◌⊎◌, List, Some, None, length, IsTrue, IsFalse, IfOk, OnOk};
 ghost use Rattle.flatten.specs.Unrolled.{Instance};
+ghost use Rattle.usuba0.specs.Circuit.{IsSmall, HasFewColumns};
 ghost use Rattle.flatten.specs.SourceCore.{core_of_node as core_of_the_node, core_of_source};
 ghost use Rattle.flatten.specs.Thin.{IsThin, IsThinNode};
 ghost use Rattle.flatten.specs.Declarations.{declarations};
@@ -63,6 +64,7 @@ fn closed(
 ) -> Result<Core, ThinFault>
     requires { IsAtEnd node.now (register_at names.now) builder }
     ensures core { IfOk result (λ core. (equations : List Instance) × IsThinNode node.now equations × (core_of_the_node node.now ≡ Some core)) }
+    ensures within { IfOk result (λ core. IsSmall core × HasFewColumns core) }
     ensures refused { result ≡ Err ThinFault.NotBuilt → (equations : List Instance) → ¬ IsThinNode node.now equations }
 {
     let outputs = registers(alloc, names, node.outputs.as_slice())?;
@@ -77,6 +79,7 @@ fn closed(
 
 fn core_of_node(alloc: Global, node: &Node) -> Result<Core, ThinFault>
     ensures core { IfOk result (λ core. (equations : List Instance) × IsThinNode node.now equations × (core_of_the_node node.now ≡ Some core)) }
+    ensures within { IfOk result (λ core. IsSmall core × HasFewColumns core) }
     ensures refused { result ≡ Err ThinFault.NotBuilt → (equations : List Instance) → ¬ IsThinNode node.now equations }
 {
     let mut names = prepared(alloc, node)?;
@@ -90,6 +93,7 @@ fn core_of_node(alloc: Global, node: &Node) -> Result<Core, ThinFault>
 /// The core of a thin file.
 pub fn core_of(alloc: Global, file: &File) -> Result<Core, ThinFault>
     ensures core { IfOk result (λ core. IsThin file.now × (core_of_source file.now ≡ Some core)) }
+    ensures within { IfOk result (λ core. IsSmall core × HasFewColumns core) }
     ensures refused { result ≡ Err ThinFault.NotBuilt → ¬ IsThin file.now }
 {
     match file.defs.as_slice() {

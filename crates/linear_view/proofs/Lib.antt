@@ -1,0 +1,9 @@
+pub mod TextLemmas
+pub mod NameLemmas
+pub mod ColumnLemmas
+pub mod WalkLemmas
+pub mod RowLemmas
+pub mod CoreLemmas
+pub mod ViewLemmas
+pub mod AttackLemmas
+pub mod WithLemmas

@@ -1,0 +1,80 @@
+-- What the equations of a circuit read, and when.
+use Rattle.std.proofs.Common.{◌≡◌, ℕ, Bool, zero, suc, ◌+◌, ◌<◌, ◌≤◌, List, [], ◌∷◌, ◌++◌, length, take, get_or, Option, None, Some, IfSome, ◌⊎◌, refl, sym, ap, ◌∙◌, subst, arith, inl, inr}
+use Rattle.std.proofs.lemmas.List.{take_more}
+use Rattle.std.proofs.lemmas.Option.{slice_get_within, get_or_from_slice_get, slice_get_cases, none-some, IfSome_then}
+use Rattle.std.specs.List.{slice_get, AllByRecursion}
+use Rattle.std.specs.Option.{option_to_list}
+use Rattle.usuba0.specs.declared.circuit.Gate.{Gate}
+use Rattle.usuba0.specs.declared.circuit.Gate.TheVariants as gate
+use Rattle.usuba0.specs.declared.circuit.Reg.{Reg}
+use Rattle.usuba0.specs.Circuit.{IsEquation}
+use Rattle.linear_view.specs.Walk.{reads, AreReadLate, KeepsLater}
+
+pub take-push : {X : Type 0} (xs : List X) (k : ℕ) (x : X) → slice_get xs k ≡ Some x → take (k + 1) xs ≡ take k xs ++ x ∷ []
+take-push xs k x e =
+    take_more xs k x (slice_get_within xs k x e) ∙ ap (λ y. take k xs ++ y ∷ []) (get_or_from_slice_get xs k x x e)
+
+pub reads_earlier : (w n : ℕ) (g : Gate) → IsEquation w n g → AllByRecursion (λ (a : Reg). a.0 < n) (reads g)
+reads_earlier w n (gate.Const c) h = tt
+reads_earlier w n (gate.Xor a b) h = (h.0, (h.1, tt))
+reads_earlier w n (gate.Not a) h = (h, tt)
+reads_earlier w n (gate.Mask c a) h = (h.1, tt)
+reads_earlier w n (gate.And a b) h = (h.0, (h.1, tt))
+reads_earlier w n (gate.Shl k a) h = (h.2, tt)
+reads_earlier w n (gate.Shr k a) h = (h.2, tt)
+reads_earlier w n (gate.Rotl k a) h = (h.2, tt)
+reads_earlier w n (gate.Refresh a) h = (h, tt)
+
+pub all_weaker : {X : Type 0} (P Q : X → Type 0) (xs : List X) → ((x : X) → P x → Q x) → AllByRecursion P xs → AllByRecursion Q xs
+all_weaker P Q [] f h = tt
+all_weaker P Q (x ∷ xs) f h = (f x h.0, all_weaker P Q xs f h.1)
+
+-- what holds of each register of two options holds of each of their list, and back
+pub all_of_two : {X : Type 0} (P : X → Type 0) (first second : Option X) → IfSome first P → IfSome second P → AllByRecursion P (option_to_list first ++ option_to_list second)
+all_of_two P None None p q = tt
+all_of_two P None (Some b) p q = (q, tt)
+all_of_two P (Some a) None p q = (p, tt)
+all_of_two P (Some a) (Some b) p q = (p, (q, tt))
+
+pub first_of_all : {X : Type 0} (P : X → Type 0) (first second : Option X) → AllByRecursion P (option_to_list first ++ option_to_list second) → IfSome first P
+first_of_all P None second h = tt
+first_of_all P (Some a) second h = h.0
+
+pub second_of_all : {X : Type 0} (P : X → Type 0) (first second : Option X) → AllByRecursion P (option_to_list first ++ option_to_list second) → IfSome second P
+second_of_all P first None h = tt
+second_of_all P None (Some b) h = h.0
+second_of_all P (Some a) (Some b) h = h.1.0
+
+pub late_rises : (old new : List ℕ) (k : ℕ) (g : Gate) → ((r : ℕ) → get_or old r 0 ≤ get_or new r 0) → AreReadLate old k g → AreReadLate new k g
+late_rises old new k g rises late =
+    all_weaker (λ (a : Reg). k ≤ get_or old a.0 0) (λ (a : Reg). k ≤ get_or new a.0 0) (reads g) (λ a h. omega (arith, rises a.0)) late
+
+pub keeps_then : {last : List ℕ} {k : ℕ} {old mid new : List (List (List Bool))} → KeepsLater last k old mid → KeepsLater last k mid new → KeepsLater last k old new
+keeps_then a b = record { count = b.count ∙ a.count; later = λ r h. b.later r h ∙ a.later r h }
+
+pub keeps_is : {last : List ℕ} {k : ℕ} {old other new : List (List (List Bool))} → old ≡ other → KeepsLater last k old new → KeepsLater last k other new
+keeps_is {last} {k} {old} {other} {new} e h = subst (λ (l : List (List (List Bool))). KeepsLater last k l new) e h
+
+pub past_none : {X : Type 0} (xs : List X) (i : ℕ) → None ≡ slice_get xs i → length xs ≤ i
+past_none xs i e = elim (slice_get_cases xs i).1 as (λ _. length xs ≤ i) [ inl there ↦ absurd (none-some there.0 (e ∙ there.2)) | inr past ↦ past.0 ]
+
+-- the last reads after one more equation
+pub late_more : (gs : List Gate) (k : ℕ) (d : Gate) (old mid new : List ℕ) (first second : Option Reg)
+    → ((j : ℕ) (g : Gate) → j < k → slice_get gs j ≡ Some g → AreReadLate old j g)
+    → ((r : ℕ) → get_or old r 0 ≤ get_or mid r 0) → ((r : ℕ) → get_or mid r 0 ≤ get_or new r 0)
+    → option_to_list first ++ option_to_list second ≡ reads (get_or gs k d)
+    → IfSome first (λ (a : Reg). k ≤ get_or mid a.0 0) → IfSome second (λ (a : Reg). k ≤ get_or new a.0 0)
+    → (j : ℕ) (g : Gate) → j < k + 1 → slice_get gs j ≡ Some g → AreReadLate new j g
+late_more gs k d old mid new first second late rise more both p q j g below there =
+    elim (cases j k below) as (λ _. AreReadLate new j g) [
+      | inl h ↦ late_rises mid new j g more (late_rises old mid j g rise (late j g h there))
+      | inr same ↦
+          let read : get_or gs k d ≡ g = get_or_from_slice_get gs k g d (ap (slice_get gs) (sym same) ∙ there) in
+          let at_k : AreReadLate new k (get_or gs k d) =
+          subst (λ (rs : List Reg). AllByRecursion (λ (a : Reg). k ≤ get_or new a.0 0) rs) both
+          (all_of_two (λ (a : Reg). k ≤ get_or new a.0 0) first second (IfSome_then first p (λ a h. omega (arith, h, more a.0))) q) in
+          subst (λ (m : ℕ). AreReadLate new m g) (sym same) (subst (λ (gate : Gate). AreReadLate new k gate) read at_k)
+    ]
+  where
+    cases : (j k : ℕ) → j < k + 1 → (j < k) ⊎ (j ≡ k)
+    cases j k h = grind arith

@@ -1,0 +1,71 @@
+// The columns of a circuit, in order.
+ghost use Rattle.std.specs.Prelude.{◌≡◌, ◌+◌, ◌<◌, ◌^◌, ◌++◌, length, IfOk, OnOk, [], ◌∷◌};
+ghost use Rattle.linear_view.specs.Names.{own_columns, input_columns, gate_columns, equation_columns};
+ghost use Rattle.linear_view.specs.Walk.{IsNewName, AreOnce};
+ghost use Rattle.linear_view.specs.declared.column.ColumnKind.TheVariants as column;
+
+use crate::column::{Column, ColumnKind};
+use crate::walk::Stage;
+use indexmap::IndexSet;
+use std::alloc::{AllocError, Global};
+use usuba0::Gate;
+
+// The columns of the inputs, and then those of the products and refreshes in the order of the equations.
+pub(crate) fn columns_of(
+    alloc: Global,
+    width: u32,
+    inputs: u32,
+    gates: &[Gate],
+) -> Result<IndexSet<Column>, AllocError>
+    requires { length gates.now < 2 ^ 32 }
+    ensures columns { IfOk result (λ columns. columns.keys ≡ input_columns width inputs ++ equation_columns width 0 0 gates.now) }
+    ensures once { IfOk result (λ columns. AreOnce columns.keys) }
+{
+    let mut columns = IndexSet::new(alloc);
+    for number in 0..inputs {
+        add_columns(&mut columns, width, ColumnKind::Input, number)?;
+    }
+    let mut stage = Stage::first(width);
+    for gate in gates {
+        add_gate_columns(&mut columns, stage, gate)?;
+        stage = stage.after(gate);
+    }
+    Ok(columns)
+}
+
+// Adds the columns of the equation's own.
+fn add_gate_columns(
+    columns: &mut IndexSet<Column>,
+    stage: Stage,
+    gate: &Gate,
+) -> Result<(), AllocError>
+    requires product { IsNewName column.Product stage.products columns.old.keys }
+    requires refresh { IsNewName column.Refresh stage.refreshes columns.old.keys }
+    requires once { AreOnce columns.old.keys }
+    ensures columns { OnOk result (columns.new.keys ≡ columns.old.keys ++ gate_columns stage.width stage.products stage.refreshes gate.now) }
+    ensures once { OnOk result (AreOnce columns.new.keys) }
+{
+    match gate {
+        Gate::And(_, _) => add_columns(columns, stage.width, ColumnKind::Product, stage.products),
+        Gate::Refresh(_) => add_columns(columns, stage.width, ColumnKind::Refresh, stage.refreshes),
+        _ => Ok(()),
+    }
+}
+
+// Adds a column for each bit.
+fn add_columns(
+    columns: &mut IndexSet<Column>,
+    width: u32,
+    kind: ColumnKind,
+    number: u32,
+) -> Result<(), AllocError>
+    requires name { IsNewName kind number columns.old.keys }
+    requires once { AreOnce columns.old.keys }
+    ensures columns { OnOk result (columns.new.keys ≡ columns.old.keys ++ own_columns width kind number) }
+    ensures once { OnOk result (AreOnce columns.new.keys) }
+{
+    for bit in 0..width {
+        columns.insert(Column { kind, number, bit })?;
+    }
+    Ok(())
+}

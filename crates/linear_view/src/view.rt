@@ -1,0 +1,169 @@
+ghost use Rattle.std.specs.Prelude.{◌≡◌, ◌≢◌, ◌<◌, ◌≤◌, ℕ, length, slice_get, Some, All, IfOk, IfSome, MatchOption};
+ghost use Rattle.std.specs.Option.{option_copied, option_map};
+ghost use Rattle.linear_view.specs.View.{IsView, AreOperands, HasRows, operands_of};
+
+use crate::column::Column;
+use gf2_span::BitRow;
+use indexmap::IndexSet;
+use std::alloc::{AllocError, Global};
+use std::marker::Model;
+use tor_edge::List;
+
+/// The rows of both operands of a product.
+#[derive(Debug, Drop)]
+pub struct Pair {
+    left: List<BitRow>,
+    right: List<BitRow>,
+}
+
+/// The columns of a circuit, and the rows of the operands of its products.
+#[derive(Drop)]
+pub struct View {
+    columns: IndexSet<Column>,
+    products: Vec<Pair>,
+}
+
+impl Model for Pair {
+    ghost use Rattle.linear_view.specs.View.{Operands};
+
+    ghost Value = { Operands };
+
+    ghost view = { λ pair. record { left = pair.left; right = pair.right } };
+}
+
+impl Model for View {
+    ghost use Rattle.linear_view.specs.View.{LinearView, IsView};
+
+    ghost Value = { LinearView };
+
+    ghost view = { λ view. record { columns = view.columns.keys; products = view.products.items } };
+
+    ghost invariant = { λ view. IsView (record { columns = view.columns.keys; products = view.products.items }) };
+}
+
+impl Pair {
+    pub(crate) fn new(left: List<BitRow>, right: List<BitRow>) -> Pair
+        ensures { result ≡ record { left = left; right = right } }
+    {
+        Pair { left, right }
+    }
+
+    pub(crate) fn left(&self) -> &List<BitRow>
+        ensures { result.now ≡ self.now.left }
+    {
+        &self.left
+    }
+
+    pub(crate) fn right(&self) -> &List<BitRow>
+        ensures { result.now ≡ self.now.right }
+    {
+        &self.right
+    }
+}
+
+impl View {
+    /// How many columns there are.
+    pub fn columns(&self) -> u32
+        ensures value { result ≡ length self.now.columns }
+        ensures view { IsView self.now }
+    {
+        self.columns.len() as u32
+    }
+
+    /// The column of number `c`.
+    pub fn column(&self, c: u32) -> Option<Column>
+        ensures { result ≡ slice_get self.now.columns c }
+    {
+        self.columns.get_index(c as usize).copied()
+    }
+
+    /// The number of the column of this name.
+    pub fn find(&self, column: Column) -> Option<u32>
+        ensures { MatchOption result ((c : ℕ) → slice_get self.now.columns c ≢ Some column) (λ c. slice_get self.now.columns c ≡ Some column) }
+    {
+        let at = self.columns.get_index_of(&column)?;
+        Some(at as u32)
+    }
+
+    /// How many products there are.
+    pub fn products(&self) -> u32
+        ensures { result ≡ length self.now.products }
+    {
+        self.products.len() as u32
+    }
+
+    /// The rows of the left operand of product `k`, that of bit 0 first.
+    pub fn left(&self, k: u32) -> Option<&List<BitRow>>
+        ensures value { option_copied result ≡ option_map (λ operands. operands.left) (slice_get self.now.products k) }
+        ensures rows { IfSome result (λ rows. HasRows (length self.now.columns) rows.now) }
+    {
+        Some(self.products.get(k as usize)?.left())
+    }
+
+    /// The rows of the right operand of product `k`, that of bit 0 first.
+    pub fn right(&self, k: u32) -> Option<&List<BitRow>>
+        ensures value { option_copied result ≡ option_map (λ operands. operands.right) (slice_get self.now.products k) }
+        ensures rows { IfSome result (λ rows. HasRows (length self.now.columns) rows.now) }
+    {
+        Some(self.products.get(k as usize)?.right())
+    }
+
+    // The view of these columns and products.
+    pub(crate) fn new(columns: IndexSet<Column>, products: Vec<Pair>) -> View
+        requires { IsView (record { columns = columns.keys; products = products.items }) }
+        ensures { result ≡ record { columns = columns.keys; products = products.items } }
+    {
+        View { columns, products }
+    }
+
+    // The columns, in order.
+    pub(crate) fn column_slice(&self) -> &[Column]
+        ensures columns { result.now ≡ self.now.columns }
+        ensures view { IsView self.now }
+    {
+        self.columns.as_slice()
+    }
+
+    // The products, in order.
+    pub(crate) fn product_slice(&self) -> &[Pair]
+        ensures { result.now ≡ self.now.products }
+    {
+        self.products.as_slice()
+    }
+}
+
+/// A view with the columns of `like`, and with these left and right operands of its products.
+pub fn view_with(
+    alloc: Global,
+    like: &View,
+    left: List<List<BitRow>>,
+    right: List<List<BitRow>>,
+) -> Result<View, AllocError>
+    requires same_count { length left ≡ length right }
+    requires few { length left ≤ 32768 }
+    requires operands { All (AreOperands (length like.now.columns)) (operands_of left right) }
+    ensures { IfOk result (λ view. view ≡ record { columns = like.now.columns; products = operands_of left right }) }
+{
+    let columns = like.columns.clone()?;
+    let products = pairs(alloc, left, right)?;
+    Ok(View::new(columns, products))
+}
+
+// The left and right operands in pairs.
+fn pairs(
+    alloc: Global,
+    mut left: List<List<BitRow>>,
+    mut right: List<List<BitRow>>,
+) -> Result<Vec<Pair>, AllocError>
+    requires { length left ≡ length right }
+    ensures { IfOk result (λ pairs. pairs.items ≡ operands_of left right) }
+{
+    let mut pairs = Vec::new(alloc);
+    while let Some(rows) = left.pop() {
+        if let Some(others) = right.pop() {
+            pairs.push(Pair::new(rows, others))?;
+        }
+    }
+    pairs.reverse();
+    Ok(pairs)
+}

@@ -1,0 +1,123 @@
+// Where a walk over the equations stands, what they read, and which registers are still to be read.
+ghost use Rattle.std.specs.Prelude.{◌≡◌, ℕ, ◌+◌, ◌<◌, ◌≤◌, ◌^◌, ◌++◌, [], ◌∷◌, length, vec_len, slice_get, slice_index, slice_index_or, Some, IfOk, IfSome};
+ghost use Rattle.std.specs.Option.{option_to_list};
+ghost use Rattle.usuba0.specs.Circuit.{AreEquations, products_of, refreshes_of};
+ghost use Rattle.linear_view.specs.Walk.{reads, AreReadLate};
+
+use std::alloc::{AllocError, Global};
+use usuba0::{Core, Gate, Reg};
+
+// The width, and how many equations, products and refreshes came so far.
+#[derive(Clone, Copy)]
+pub(crate) struct Stage {
+    pub(crate) width: u32,
+    pub(crate) equations: usize,
+    pub(crate) products: u32,
+    pub(crate) refreshes: u32,
+}
+
+impl Stage {
+    // Before the first equation.
+    pub(crate) fn first(width: u32) -> Stage
+        ensures { result ≡ record { width = width; equations = 0; products = 0; refreshes = 0 } }
+    {
+        Stage {
+            width,
+            equations: 0,
+            products: 0,
+            refreshes: 0,
+        }
+    }
+
+    // After one more equation.
+    pub(crate) fn after(self, gate: &Gate) -> Stage
+        requires equations { self.equations + 1 < 2 ^ 64 }
+        requires products { self.products + 1 < 2 ^ 32 }
+        requires refreshes { self.refreshes + 1 < 2 ^ 32 }
+        ensures { result ≡ record {
+          width = self.width;
+          equations = self.equations + 1;
+          products = self.products + products_of (gate.now ∷ []);
+          refreshes = self.refreshes + refreshes_of (gate.now ∷ []);
+        } }
+    {
+        let products = match gate {
+            Gate::And(_, _) => self.products + 1,
+            _ => self.products,
+        };
+        let refreshes = match gate {
+            Gate::Refresh(_) => self.refreshes + 1,
+            _ => self.refreshes,
+        };
+        Stage {
+            width: self.width,
+            equations: self.equations + 1,
+            products,
+            refreshes,
+        }
+    }
+}
+
+// The equations of the circuit, in order.
+pub(crate) fn equations_of(alloc: Global, core: &Core) -> Result<Vec<Gate>, AllocError>
+    ensures { IfOk result (λ gates. gates.items ≡ core.now.equations) }
+{
+    let mut gates = Vec::new(alloc);
+    for k in 0..core.equations() {
+        if let Some(gate) = core.equation(k) {
+            gates.push(*gate)?;
+        }
+    }
+    Ok(gates)
+}
+
+// The registers that the equation reads, none to two of them.
+pub(crate) fn reads(gate: &Gate) -> (Option<Reg>, Option<Reg>)
+    ensures { option_to_list result.0 ++ option_to_list result.1 ≡ reads gate.now }
+{
+    match *gate {
+        Gate::Const(_) => (None, None),
+        Gate::Xor(a, b) | Gate::And(a, b) => (Some(a), Some(b)),
+        Gate::Not(a)
+        | Gate::Mask(_, a)
+        | Gate::Shl(_, a)
+        | Gate::Shr(_, a)
+        | Gate::Rotl(_, a)
+        | Gate::Refresh(a) => (Some(a), None),
+    }
+}
+
+// For each register the number of the last equation that reads it, or 0.
+pub(crate) fn last_reads(
+    alloc: Global,
+    width: u32,
+    inputs: u32,
+    gates: &[Gate],
+) -> Result<Vec<usize>, AllocError>
+    requires few { inputs + length gates.now < 2 ^ 32 }
+    requires earlier { AreEquations width inputs gates.now }
+    ensures count { IfOk result (λ last. vec_len last ≡ inputs + length gates.now) }
+    ensures late { IfOk result (λ last. (k : ℕ) (g : Gate) → slice_get gates.now k ≡ Some g → AreReadLate last.items k g) }
+{
+    let mut last = vec![in alloc; 0; inputs as usize + gates.len()]?;
+    for (k, gate) in gates.iter().enumerate() {
+        let (first, second) = reads(gate);
+        mark_read(&mut last, first, k);
+        mark_read(&mut last, second, k);
+    }
+    Ok(last)
+}
+
+// Equation `k` reads the register, if there is one, and no later equation was seen.
+fn mark_read(last: &mut Vec<usize>, register: Option<Reg>, k: usize)
+    requires within { IfSome register (λ a. a.0 < vec_len last.old) }
+    requires earlier { (r : ℕ) → slice_index last.old.items r ≤ k }
+    ensures count { vec_len last.new ≡ vec_len last.old }
+    ensures late { IfSome register (λ a. k ≤ slice_index last.new.items a.0) }
+    ensures rises { (r : ℕ) → slice_index last.old.items r ≤ slice_index last.new.items r }
+    ensures now { (r : ℕ) → slice_index last.new.items r ≤ k }
+{
+    if let Some(a) = register {
+        last[a.0 as usize] = k;
+    }
+}

@@ -1,0 +1,98 @@
+-- What the answers of calls say together.
+use Rattle.std.proofs.Common.{◌≡◌, inl, inr, ℕ, ◌+◌, ◌<◌, ◌≤◌, Bool, true, false, not, List, [], ◌∷◌, ◌++◌, length, get_or, refl, sym, ap, ◌∙◌, subst, arith, MatchBool, MatchOption, Option, Some, None}
+use Rattle.std.specs.Prelude.{replicate}
+use Rattle.std.specs.Bool.{OnTrue, OnFalse}
+use Rattle.std.specs.Option.{is_some}
+use Rattle.std.proofs.lemmas.List.{get_or_default, get_or_past, get_or-map, length-map, length-replicate, get_or-replicate}
+use Rattle.std.proofs.lemmas.Bool.{cases_lt}
+use Rattle.span_model.specs.Columns.{Columns, empty, set_of, sets_of}
+use Rattle.span_model.specs.Span.{InSpan, Spans, SameSpan, IsMeet}
+use Rattle.span_model.proofs.Members.{in_as, in_none, spans_all, spans_none}
+use Rattle.gf2_span.specs.Basis.{Basis, row_sets}
+use Rattle.tightprove.specs.Classes.{MeetEmpty}
+use Rattle.tightprove.specs.Growth.{MeetsWithin, HasRowOutside, IsGrowth, IsGrown}
+use Rattle.tightprove.specs.declared.class.Class.{Class}
+use Rattle.tightprove.specs.declared.growth.Growth.{Growth}
+use Rattle.tightprove.proofs.Closures.{row_in, grown_none}
+
+-- ---- rows in a span, one by one
+
+pub within_more : (span : List (Columns ℕ)) (rows : List (List Bool)) (i : ℕ) (row : List Bool) → i < length rows → row ≡ get_or rows i row
+    → ((k : ℕ) → k < i → InSpan span (set_of (get_or rows k []))) → InSpan span (set_of row) → (k : ℕ) → k < i + 1 → InSpan span (set_of (get_or rows k []))
+within_more span rows i row h is below here k less = elim (cases_lt k i) [
+  | inl old ↦ below k old
+  | inr now ↦
+      let e : i ≡ k = omega arith in
+      let P : ℕ → Type 0 = λ j. InSpan span (set_of (get_or rows j [])) in
+      subst P e (in_as span (ap set_of (is ∙ get_or_default rows i row [] h)) here)
+]
+
+all_within : (span : List (Columns ℕ)) (rows : List (List Bool)) → ((k : ℕ) → k < length rows → InSpan span (set_of (get_or rows k []))) → Spans span (sets_of rows)
+all_within span rows inside = spans_all span (sets_of rows) (λ k d h.
+    let within : k < length rows = omega (arith, h, length-map rows set_of) in
+    in_as span (sym (get_or-map set_of rows k [] d within)) (inside k within))
+
+pub same_both : (span other : List (Columns ℕ)) (rows : List (List Bool)) (n : ℕ) (r : Bool) (Other : Type 0) → length rows ≤ n
+    → ((k : ℕ) → k < n → InSpan span (set_of (get_or rows k []))) → SameSpan other (sets_of rows) → MatchBool r (Spans other span) Other
+    → OnTrue r (SameSpan (sets_of rows) span)
+same_both span other rows n true Other past inside same within =
+    λ v. ((λ m. all_within span rows (λ k h. inside k (omega arith)) v m), (λ m. (same v).0 (within v m)))
+same_both span other rows n false Other past inside same within = tt
+
+-- ---- a growing span at its start
+
+pub growth_starts : (classes : List Class) (candidates : Basis) (growth : Growth) (columns n : ℕ) → candidates.columns ≡ columns
+    → growth.span ≡ record { columns = columns; rows = [] } → growth.joint ≡ candidates → growth.taken.items ≡ replicate n false → n ≡ length classes
+    → IsGrowth classes candidates growth
+growth_starts classes candidates growth columns n wide span joint taken count =
+    let P : Basis → Type 0 = λ b. Spans (row_sets b) (row_sets candidates) in
+    let Q : Basis → Type 0 = λ b. Spans (row_sets growth.joint) (row_sets b) in
+    record {
+      columns = ap (λ (b : Basis). b.columns) span ∙ sym wide;
+      joint_columns = ap (λ (b : Basis). b.columns) joint;
+      flags = ap length taken ∙ length-replicate n false ∙ count;
+      candidates_in = subst P (sym joint) (λ v m. m);
+      span_in = subst Q (sym span) (spans_none (row_sets growth.joint));
+      taken = λ i j on partner. absurd (let off : get_or growth.taken.items i false ≡ false = ap (λ (x : List Bool). get_or x i false) taken ∙ none n i in cc (off, on));
+    }
+  where
+    none : (n i : ℕ) → get_or (replicate n false) i false ≡ false
+    none n i = elim (cases_lt i n) [
+      | inl lt ↦ get_or-replicate n i false false lt
+      | inr past ↦ get_or_past (replicate n false) i false (omega (arith, length-replicate n false))
+    ]
+
+pub grown_at_start : (classes : List Class) (candidates : List (Columns ℕ)) (span : Basis) → span.rows ≡ [] → IsGrown classes candidates (row_sets span)
+grown_at_start classes candidates span none =
+    let P : List (List Bool) → Type 0 = λ r. IsGrown classes candidates (sets_of r) in
+    subst P (sym none) (grown_none classes candidates)
+
+-- ---- what meets, and what holds
+
+pub holds_answer : (candidates : Basis) (meet rows span : List (Columns ℕ)) (r : Bool) → IsMeet meet (row_sets candidates) (rows ++ span)
+    → MatchBool r (Spans meet (row_sets candidates)) (HasRowOutside candidates.rows meet)
+    → MatchBool r (Spans (rows ++ span) (row_sets candidates)) (HasRowOutside candidates.rows (rows ++ span))
+holds_answer candidates meet rows span true is h = λ v m. ((is v).0 (h v m)).1
+holds_answer candidates meet rows span false is h =
+    (h.0, h.1, λ m. h.2 ((is (set_of (get_or candidates.rows h.0 []))).1 (row_in candidates h.0 h.1, m)))
+
+pub meets_answer : (candidates meet rows span : List (Columns ℕ)) (r : Bool) (Outside : Type 0) → IsMeet meet candidates (rows ++ span)
+    → MatchBool r (Spans span meet) Outside → OnFalse (not r) (MeetsWithin candidates rows span)
+meets_answer candidates meet rows span true Outside is h = λ v c m. h v ((is v).1 (c, m))
+meets_answer candidates meet rows span false Outside is h = tt
+
+pub no_common : (a b : List (Columns ℕ)) (meet : Basis) → IsMeet (row_sets meet) a b → meet.rows ≡ [] → MeetEmpty a b
+no_common a b meet is none v m n =
+    let P : List (List Bool) → Type 0 = λ r. InSpan (sets_of r) v in
+    in_none v (subst P none ((is v).1 (m, n)))
+
+pub some_column : (v : Columns ℕ) (c : ℕ) → v c ≡ true → v ≡ empty → ⊥
+some_column v c there e = let f : v c ≡ false = ap (λ (w : Columns ℕ). w c) e in cc (f, there)
+
+pub none_then : {X : Type 0} (found : Option X) (b : Bool) (P : Type 0) (Q : X → Type 0) → b ≡ is_some found → b ≡ false → MatchOption found P Q → P
+none_then None b P Q e f h = h
+none_then (Some x) b P Q e f h = cc (e, f)
+
+pub empty_list : {X : Type 0} (xs : List X) → length xs ≡ 0 → xs ≡ []
+empty_list [] e = refl
+empty_list (x ∷ xs) e = absurd (omega arith)

@@ -1,0 +1,8 @@
+-- The theory behind the search.
+pub mod Calls
+pub mod Closures
+pub mod Gathering
+pub mod Passes
+pub mod Pending
+pub mod Taking
+pub mod Verdicts

@@ -1,0 +1,58 @@
+-- The answers of the search.
+use Rattle.std.proofs.Common.{◌≡◌, ◌≢◌, ◌⊎◌, ℕ, ◌<◌, ◌≤◌, Bool, true, false, List, [], ◌∷◌, length, get_or, ◌∙◌, subst, arith, MatchBool}
+use Rattle.std.specs.List.{Contains}
+use Rattle.std.proofs.lemmas.List.{get_or_default}
+use Rattle.span_model.specs.Columns.{Columns, empty}
+use Rattle.span_model.specs.Span.{InSpan, Spans, SameSpan}
+use Rattle.span_model.specs.Attack.{Product, IsLeak, HasAttack}
+use Rattle.span_model.proofs.Members.{in_head}
+use Rattle.gf2_span.specs.Basis.{Basis, row_sets}
+use Rattle.tightprove.specs.Classes.{class_rows, AreClassesOf, MeetEmpty, IsClean, KeepsLeaks}
+use Rattle.tightprove.specs.Growth.{IsGrown, IsSaturated, ArePieces, span_at}
+use Rattle.tightprove.specs.Tasks.{HoldLeaks}
+use Rattle.tightprove.specs.declared.class.Class.{Class}
+use Rattle.tightprove.proofs.Closures.{grown_leak, leak_in_grown, pieces_hold, all_clean}
+use Rattle.tightprove.proofs.Pending.{clean_within}
+
+match_same : (r : Bool) (P Q : Type 0) → (P → Q) → (Q → P) → MatchBool r P (¬ P) → MatchBool r Q (¬ Q)
+match_same true P Q f g p = f p
+match_same false P Q f g n = λ q. n (g q)
+
+-- a set is a leak exactly where it is in the span that is grown for it
+pub leaks_exact : (classes : List Class) (products : List (Product ℕ)) → AreClassesOf products classes → (candidates : Basis) (span : List (Columns ℕ)) (v : Columns ℕ)
+    → SameSpan (row_sets candidates) (v ∷ []) → v ≢ empty → IsGrown classes (row_sets candidates) span
+    → Spans span (row_sets candidates) ⊎ IsSaturated classes candidates span
+    → (r : Bool) → MatchBool r (InSpan span v) (¬ InSpan span v) → MatchBool r (IsLeak products v) (¬ IsLeak products v)
+leaks_exact classes products are candidates span v same some grown ended r h =
+    let inside : InSpan (row_sets candidates) v = (same v).1 (in_head v []) in
+    match_same r (InSpan span v) (IsLeak products v)
+    (λ m. grown_leak classes (row_sets candidates) span grown v inside m some products are)
+    (leak_in_grown classes candidates span v ended (λ u m. (same u).0 m) inside products are) h
+
+-- the pieces of what is left of the candidates hold all their leaks
+pub split_pieces : (classes : List Class) (candidates rest : Basis) (span : List (Columns ℕ)) (pieces : List Basis) → rest.columns ≡ candidates.columns
+    → KeepsLeaks classes (row_sets candidates) (row_sets rest) → length rest.rows ≤ length candidates.rows → MeetEmpty (row_sets rest) span
+    → ArePieces classes rest span pieces → HoldLeaks classes candidates pieces
+split_pieces classes candidates rest span pieces columns keeps rank apart split = record {
+  few = split.few;
+  columns = λ n lt. split.columns n lt ∙ columns;
+  proper = λ n lt. (let h : length (span_at pieces n).rows < length rest.rows = split.proper n lt in omega (arith, h));
+  leaks = λ products are v m leak. pieces_hold classes rest span pieces split apart products are v (keeps products are v m leak) leak;
+}
+
+-- a class whose rows are in a clean span is clean
+pub class_clean : (classes : List Class) (i : ℕ) (span rows : List (Columns ℕ)) → IsClean classes span → SameSpan span rows → rows ≡ class_rows classes i
+    → IsClean classes (class_rows classes i)
+class_clean classes i span rows clean same is =
+    let P : List (Columns ℕ) → Type 0 = λ r. IsClean classes r in
+    subst P is (clean_within classes span rows (λ v m. (same v).1 m) clean)
+
+-- with all listed classes clean there is no attack
+pub listed_clean : (classes : List Class) (products : List (Product ℕ)) (order : List ℕ) (n : ℕ) → AreClassesOf products classes
+    → ((i : ℕ) → i < length classes → Contains order i) → length order ≤ n
+    → ((k : ℕ) → k < n → IsClean classes (class_rows classes (get_or order k 0))) → ¬ HasAttack products
+listed_clean classes products order n are all past clean =
+    all_clean classes products are (λ i lt.
+    let f = all i lt in
+    let P : ℕ → Type 0 = λ j. IsClean classes (class_rows classes j) in
+    subst P (get_or_default order f.0 0 i f.1 ∙ f.2) (clean f.0 (omega (arith, f.1))))

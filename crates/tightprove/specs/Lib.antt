@@ -1,0 +1,4 @@
+pub mod Verdict
+pub mod Classes
+pub mod Growth
+pub mod Tasks

@@ -1,0 +1,353 @@
+ghost use Rattle.std.specs.Prelude.{◌≡◌, ◌≢◌, ◌<◌, ◌≤◌, ◌+◌, ◌++◌, ℕ, [], ◌∷◌, List, length, true, false, Some, slice_index_or, IfOk, OnOk, OnErr, IfSome, All, Contains, suc};
+ghost use Rattle.span_model.specs.Columns.{sets_of, set_of};
+ghost use Rattle.span_model.specs.Span.{SameSpan};
+ghost use Rattle.span_model.specs.Attack.{Product, product_at};
+ghost use Rattle.gf2_span.specs.Basis.{row_sets};
+ghost use Rattle.linear_view.specs.View.{products_of, product_of, Operands};
+ghost use Rattle.tightprove.specs.Classes.{class_at, class_rows, IsPartner, AreClasses, AreByLead, AreClassesOf, AreStepsOf, AreNear, AreListed, IsGathered, HasClassesOf, HasPartnersAnd, HasInLanes};
+ghost use Rattle.gf2_span.specs.Rows.{IsLast, HaveOwnLeads};
+ghost use Rattle.std.specs.Bool.{OnTrue};
+
+use crate::class::Class;
+use gf2_span::{BitRow, Span, leads_are_kept};
+use linear_view::View;
+use std::alloc::{AllocError, Global};
+use tor_edge::List;
+
+/// The classes of the operands of a view's products.
+#[derive(Drop)]
+pub(crate) struct Classes {
+    pub(crate) columns: u32,
+    pub(crate) list: Vec<Class>,
+    // by column: the classes of which a row has it as its greatest column
+    pub(crate) by_lead: Vec<List<usize>>,
+}
+
+// Grows the span by rows.
+pub(crate) fn insert_all(alloc: Global, span: &mut Span, rows: &[BitRow]) -> Result<(), AllocError>
+    requires { (k : ℕ) → k < length rows.now → length (slice_index_or rows.now k []) ≡ span.old.columns }
+    ensures columns { span.new.columns ≡ span.old.columns }
+    ensures span { OnOk result (SameSpan (row_sets span.new) (row_sets span.old ++ sets_of rows.now)) }
+{
+    for row in rows {
+        let _fresh = span.insert(row.copy(alloc)?)?;
+    }
+    Ok(())
+}
+
+// The span of rows.
+pub(crate) fn span_of(alloc: Global, columns: u32, rows: &[BitRow]) -> Result<Span, AllocError>
+    requires { (k : ℕ) → k < length rows.now → length (slice_index_or rows.now k []) ≡ columns }
+    ensures columns { IfOk result (λ span. span.columns ≡ columns) }
+    ensures span { IfOk result (λ span. SameSpan (row_sets span) (sets_of rows.now)) }
+{
+    let mut span = Span::new(alloc, columns)?;
+    insert_all(alloc, &mut span, rows)?;
+    Ok(span)
+}
+
+// The greatest column of row k of the span.
+pub(crate) fn lead_of(span: &Span, k: u32) -> Option<u32>
+    ensures value { (c : ℕ) → k < length span.now.rows → IsLast (set_of (slice_index_or span.now.rows k [])) c → result ≡ Some c }
+    ensures within { IfSome result (λ c. c < span.now.columns) }
+{
+    match span.row(k) {
+        Some(row) => row.last(),
+        None => None,
+    }
+}
+
+/// The greatest columns of the span's rows.
+pub(crate) fn leads_of(alloc: Global, span: &Span) -> Result<Vec<u32>, AllocError>
+    ensures leads { IfOk result (λ leads. (k c : ℕ) → k < length span.now.rows → IsLast (set_of (slice_index_or span.now.rows k [])) c → Contains leads.items c) }
+    ensures within { IfOk result (λ leads. All (λ c. c < span.now.columns) leads.items) }
+    ensures own { HaveOwnLeads (row_sets span.now) }
+    ensures wide { (k : ℕ) → k < length span.now.rows → length (slice_index_or span.now.rows k []) ≡ span.now.columns }
+{
+    let mut leads = Vec::new(alloc);
+    for k in 0..span.rank() {
+        match lead_of(span, k) {
+            Some(lead) => leads.push(lead)?,
+            None => {}
+        }
+    }
+    Ok(leads)
+}
+
+// The rows that the span keeps.
+fn rows_of(alloc: Global, span: &Span) -> Result<List<BitRow>, AllocError>
+    ensures { IfOk result (λ rows. rows ≡ span.now.rows) }
+{
+    let mut rows = List::new(alloc);
+    for k in 0..span.rank() {
+        match span.row(k) {
+            Some(row) => rows.push(row.copy(alloc)?)?,
+            None => {}
+        }
+    }
+    Ok(rows)
+}
+
+// Whether the rows span the same sets as the span.
+fn is_same(alloc: Global, span: &Span, rows: &[BitRow]) -> Result<bool, AllocError>
+    requires { (k : ℕ) → k < length rows.now → length (slice_index_or rows.now k []) ≡ span.now.columns }
+    ensures { IfOk result (λ same. OnTrue same (SameSpan (sets_of rows.now) (row_sets span.now))) }
+{
+    if rows.len() != span.rank() as usize {
+        return Ok(false);
+    }
+    let Some(first) = rows.first() else {
+        return Ok(true);
+    };
+    let mut scratch = first.copy(alloc)?;
+    for row in rows {
+        if !span.contains(row, &mut scratch) {
+            return Ok(false);
+        }
+    }
+    let other = span_of(alloc, first.columns(), rows)?;
+    Ok(span.is_within(&other, &mut scratch))
+}
+
+/// The list at a column.
+pub(crate) fn lane_at(table: &Vec<List<usize>>, c: u32) -> &[usize]
+    ensures { result.now ≡ slice_index_or table.now.items c [] }
+{
+    match table.get(c as usize) {
+        Some(lane) => lane.as_slice(),
+        None => &[],
+    }
+}
+
+// The class with the span, where there is one.
+fn find(
+    alloc: Global,
+    list: &Vec<Class>,
+    by_lead: &Vec<List<usize>>,
+    span: &Span,
+) -> Result<Option<usize>, AllocError>
+    requires classes { AreClasses span.now.columns list.now.items }
+    requires by_lead { AreByLead list.now.items by_lead.now.items }
+    ensures { IfOk result (λ found. IfSome found (λ i. (i < length list.now.items) × SameSpan (class_rows list.now.items i) (row_sets span.now))) }
+{
+    let Some(lead) = lead_of(span, 0) else {
+        return Ok(None);
+    };
+    for i in lane_at(by_lead, lead) {
+        if is_same(alloc, span, list[*i].rows.as_slice())? {
+            return Ok(Some(*i));
+        }
+    }
+    Ok(None)
+}
+
+/// Adds a number to the lists at these columns.
+pub(crate) fn add_to_lanes(
+    leads: &[u32],
+    n: usize,
+    table: &mut Vec<List<usize>>,
+) -> Result<(), AllocError>
+    requires { All (λ c. c < length table.old.items) leads.now }
+    ensures lanes { OnOk result (HasInLanes leads.now n table.old.items table.new.items) }
+    ensures width { length table.new.items ≡ length table.old.items }
+{
+    for lead in leads {
+        table[*lead as usize].push(n)?;
+    }
+    Ok(())
+}
+
+// Adds a class of the rows of the span, with no partners yet.
+fn add_class(
+    alloc: Global,
+    list: &mut Vec<Class>,
+    by_lead: &mut Vec<List<usize>>,
+    span: &Span,
+) -> Result<(), AllocError>
+    requires classes { AreClasses span.now.columns list.old.items }
+    requires by_lead { AreByLead list.old.items by_lead.old.items }
+    requires width { length by_lead.old.items ≡ span.now.columns }
+    ensures list { OnOk result (list.new.items ≡ list.old.items ++ record { rows = span.now.rows; partners = [] } ∷ []) }
+    ensures classes { OnOk result (AreClasses span.now.columns list.new.items) }
+    ensures by_lead { OnOk result (AreByLead list.new.items by_lead.new.items) }
+    ensures width { length by_lead.new.items ≡ span.now.columns }
+{
+    let rows = rows_of(alloc, span)?;
+    add_to_lanes(&leads_of(alloc, span)?, list.len(), by_lead)?;
+    list.push(Class {
+        rows,
+        partners: List::new(alloc),
+    })?;
+    Ok(())
+}
+
+// The number of the class with the span of the rows, which is added where there is none.
+fn place(
+    alloc: Global,
+    columns: u32,
+    list: &mut Vec<Class>,
+    by_lead: &mut Vec<List<usize>>,
+    rows: &[BitRow],
+) -> Result<usize, AllocError>
+    requires classes { AreClasses columns list.old.items }
+    requires by_lead { AreByLead list.old.items by_lead.old.items }
+    requires width { length by_lead.old.items ≡ columns }
+    requires wide { (k : ℕ) → k < length rows.now → length (slice_index_or rows.now k []) ≡ columns }
+    ensures number { IfOk result (λ i. (i < length list.new.items) × SameSpan (class_rows list.new.items i) (sets_of rows.now)) }
+    ensures kept { OnOk result (HasClassesOf list.old.items list.new.items) }
+    ensures classes { OnOk result (AreClasses columns list.new.items) }
+    ensures by_lead { OnOk result (AreByLead list.new.items by_lead.new.items) }
+    ensures width { length by_lead.new.items ≡ columns }
+{
+    let span = span_of(alloc, columns, rows)?;
+    match find(alloc, list, by_lead, &span)? {
+        Some(i) => Ok(i),
+        None => {
+            let i = list.len();
+            add_class(alloc, list, by_lead, &span)?;
+            Ok(i)
+        }
+    }
+}
+
+// Notes that operands of class i stand beside operands of class j.
+fn add_partner(list: &mut Vec<Class>, i: usize, j: usize) -> Result<(), AllocError>
+    requires i { i < length list.old.items }
+    ensures length { length list.new.items ≡ length list.old.items }
+    ensures rows { (k : ℕ) → (class_at list.new.items k).rows ≡ (class_at list.old.items k).rows }
+    ensures partners { OnOk result (HasPartnersAnd list.old.items i j list.new.items) }
+{
+    list[i].partners.push(j)?;
+    Ok(())
+}
+
+// Gathers the operands of one more product.
+fn add_product(
+    alloc: Global,
+    columns: u32,
+    list: &mut Vec<Class>,
+    by_lead: &mut Vec<List<usize>>,
+    left: &[BitRow],
+    right: &[BitRow],
+) -> Result<(), AllocError>
+    requires classes { AreClasses columns list.old.items }
+    requires by_lead { AreByLead list.old.items by_lead.old.items }
+    requires width { length by_lead.old.items ≡ columns }
+    requires left { (k : ℕ) → k < length left.now → length (slice_index_or left.now k []) ≡ columns }
+    requires right { (k : ℕ) → k < length right.now → length (slice_index_or right.now k []) ≡ columns }
+    ensures steps { OnOk result ((n : ℕ) (products : List (Product ℕ)) → product_at products n ≡ record { left = sets_of left.now; right = sets_of right.now } → AreStepsOf n products list.old.items → AreStepsOf (suc n) products list.new.items) }
+    ensures classes { OnOk result (AreClasses columns list.new.items) }
+    ensures by_lead { OnOk result (AreByLead list.new.items by_lead.new.items) }
+    ensures width { length by_lead.new.items ≡ columns }
+{
+    let i = place(alloc, columns, list, by_lead, left)?;
+    let j = place(alloc, columns, list, by_lead, right)?;
+    add_partner(list, i, j)?;
+    add_partner(list, j, i)?;
+    Ok(())
+}
+
+// Gathers the operands of product k of a view.
+fn add_numbered(
+    alloc: Global,
+    view: &View,
+    k: u32,
+    list: &mut Vec<Class>,
+    by_lead: &mut Vec<List<usize>>,
+) -> Result<(), AllocError>
+    requires k { k < length view.now.products }
+    requires classes { AreClasses (length view.now.columns) list.old.items }
+    requires by_lead { AreByLead list.old.items by_lead.old.items }
+    requires width { length by_lead.old.items ≡ length view.now.columns }
+    ensures steps { OnOk result (AreStepsOf k (products_of view.now) list.old.items → AreStepsOf (suc k) (products_of view.now) list.new.items) }
+    ensures classes { OnOk result (AreClasses (length view.now.columns) list.new.items) }
+    ensures by_lead { OnOk result (AreByLead list.new.items by_lead.new.items) }
+    ensures width { length by_lead.new.items ≡ length view.now.columns }
+{
+    let columns = view.columns();
+    let Some(left) = view.left(k) else {
+        return Ok(());
+    };
+    let Some(right) = view.right(k) else {
+        return Ok(());
+    };
+    add_product(
+        alloc,
+        columns,
+        list,
+        by_lead,
+        left.as_slice(),
+        right.as_slice(),
+    )?;
+    Ok(())
+}
+
+// An empty list for each column.
+pub(crate) fn empty_lanes(alloc: Global, columns: u32) -> Result<Vec<List<usize>>, AllocError>
+    ensures width { IfOk result (λ lanes. length lanes.items ≡ columns) }
+    ensures empty { IfOk result (λ lanes. (c : ℕ) → slice_index_or lanes.items c [] ≡ []) }
+{
+    let mut lanes = Vec::new(alloc);
+    for _ in 0..columns {
+        lanes.push(List::new(alloc))?;
+    }
+    Ok(lanes)
+}
+
+/// Gathers the operands of a view's products.
+pub(crate) fn classes_of(alloc: Global, view: &View) -> Result<Classes, AllocError>
+    ensures columns { IfOk result (λ classes. classes.columns ≡ length view.now.columns) }
+    ensures gathered { IfOk result (λ classes. IsGathered classes) }
+    ensures products { IfOk result (λ classes. AreClassesOf (products_of view.now) classes.list.items) }
+{
+    let columns = view.columns();
+    let mut list = Vec::new(alloc);
+    let mut by_lead = empty_lanes(alloc, columns)?;
+    for k in 0..view.products() {
+        add_numbered(alloc, view, k, &mut list, &mut by_lead)?;
+    }
+    Ok(Classes {
+        columns,
+        list,
+        by_lead,
+    })
+}
+
+// Lists the classes of a lane that are not yet listed.
+fn list_lane(
+    lane: &[usize],
+    listed: &mut Vec<bool>,
+    near: &mut Vec<usize>,
+) -> Result<(), AllocError>
+    requires numbers { (i : ℕ) → Contains lane.now i → i < length listed.old.items }
+    requires listed { AreListed (length listed.old.items) listed.old.items near.old.items }
+    ensures listed { OnOk result (AreListed (length listed.old.items) listed.new.items near.new.items) }
+    ensures kept { OnOk result ((i : ℕ) → slice_index_or listed.old.items i false ≡ true → slice_index_or listed.new.items i false ≡ true) }
+    ensures lane { OnOk result ((i : ℕ) → Contains lane.now i → slice_index_or listed.new.items i false ≡ true) }
+{
+    for i in lane {
+        if !listed[*i] {
+            listed[*i] = true;
+            near.push(*i)?;
+        }
+    }
+    Ok(())
+}
+
+/// The classes that share a greatest column with the span: any other class has no member in common with it but the empty set.
+pub(crate) fn touching(
+    alloc: Global,
+    classes: &Classes,
+    span: &Span,
+) -> Result<Vec<usize>, AllocError>
+    requires { IsGathered classes.now }
+    ensures { IfOk result (λ near. AreNear classes.now.list.items (row_sets span.now) near.items) }
+{
+    let mut listed = vec![in alloc; false; classes.list.len()]?;
+    let mut near = Vec::new(alloc);
+    for lead in &leads_of(alloc, span)? {
+        list_lane(lane_at(&classes.by_lead, *lead), &mut listed, &mut near)?;
+    }
+    leads_are_kept();
+    Ok(near)
+}

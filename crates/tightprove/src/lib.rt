@@ -1,0 +1,18 @@
+//! The search for an attack on the products of a circuit, and the test whether a set of columns is the leak of one.
+//!
+//! Both are exact: a set of columns is the leak of an attack exactly where it reaches steps whose co-operands span it, and the search goes
+//! over whole spans of candidates at a time.
+#![tactic(auto)]
+
+mod class;
+mod classes;
+mod growth;
+mod known;
+mod pieces;
+mod searches;
+mod split;
+mod tasks;
+#[cfg(test)]
+mod tests;
+
+pub use searches::{Verdict, leaks, search};

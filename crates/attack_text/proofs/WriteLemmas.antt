@@ -1,0 +1,155 @@
+-- The texts of the parts of an attack, joined.
+use Rattle.std.proofs.Common.{◌≡◌, ℕ, suc, ◌+◌, ◌<◌, ◌≤◌, Bool, true, false, List, [], ◌∷◌, ◌++◌, length, get_or, take, drop, map, refl, sym, ap, ◌∙◌, arith, append_assoc, append-nil, add-one, drop-cons, codes, decimal, flat_map, Option, None, Some, slice_get, option_to_list}
+use Rattle.std.proofs.lemmas.List.{take_more, take-append-drop, length-take-le}
+use Rattle.std.proofs.lemmas.Option.{get_or_from_slice_get, slice_get-get_or}
+use Rattle.linear_view.specs.RowsText.{column_text}
+use Rattle.linear_view.specs.View.{LinearView}
+use Rattle.linear_view.specs.declared.column.Column.{Column}
+use Rattle.attack_text.specs.AttackText.{leak_words, side_word, step_words, steps_text, counted_steps_text, head_text, leak_text, root_text, listing_text, attack_text}
+use Rattle.attack_text.specs.declared.attack.Attack.{Attack}
+use Rattle.attack_text.specs.declared.attack.Step.{Step}
+use Rattle.text_lines.specs.Words.{line_text, spaced}
+
+-- a line and the words after the first, from their front
+line_is : (word : List ℕ) (words : List (List ℕ)) → line_text (word ∷ words) ≡ word ++ (spaced words ++ codes "\n")
+line_is word words = append_assoc word (spaced words) (codes "\n")
+
+spaced_is : (word : List ℕ) (words : List (List ℕ)) (rest : List ℕ) → spaced (word ∷ words) ++ rest ≡ codes " " ++ (word ++ (spaced words ++ rest))
+spaced_is word words rest = append_assoc (codes " " ++ word) (spaced words) rest
+
+pub head_is : (a b columns products : ℕ) → a ≡ columns → b ≡ products
+    → codes "attack 2\ncore columns " ++ (decimal a ++ (codes " products " ++ (decimal b ++ codes "\n"))) ≡ head_text columns products
+head_is a b columns products ea eb =
+    rw (ea, eb)
+    (let tail : spaced (codes "products" ∷ decimal products ∷ []) ++ codes "\n" ≡ codes " products " ++ (decimal products ++ codes "\n") =
+    ap (λ (t : List ℕ). codes " products " ++ t) (append_assoc (decimal products) [] (codes "\n")) in
+    sym
+    (ap (λ (t : List ℕ). codes "attack 2\ncore columns " ++ t)
+    (append_assoc (decimal columns) (spaced (codes "products" ∷ decimal products ∷ [])) (codes "\n") ∙ ap (λ (t : List ℕ). decimal columns ++ t) tail)))
+
+-- a step: what stands before its uses, and its uses
+pub step_is : (index : ℕ) (step : Step) (uses : List ℕ) → uses ≡ step.uses
+    → (codes "step " ++ (decimal index ++ (codes " product " ++ (decimal step.product ++ (codes " " ++ (side_word step.side ++ codes " uses"))))))
+    ++ (spaced (map decimal uses) ++ codes "\n")
+    ≡ line_text (step_words index step)
+step_is index step uses e =
+    let u : List (List ℕ) = map decimal step.uses in
+    let i : List ℕ = decimal index in
+    let p : List ℕ = decimal step.product in
+    let s : List ℕ = side_word step.side in
+    let nl : List ℕ = codes "\n" in
+    let end : List ℕ = spaced u ++ nl in
+    let uses_end : spaced (codes "uses" ∷ u) ++ nl ≡ codes " uses" ++ end = spaced_is (codes "uses") u nl in
+    let side_end : spaced (s ∷ codes "uses" ∷ u) ++ nl ≡ codes " " ++ (s ++ (codes " uses" ++ end)) =
+    spaced_is s (codes "uses" ∷ u) nl ∙ ap (λ (t : List ℕ). codes " " ++ (s ++ t)) uses_end in
+    let product_end : spaced (p ∷ s ∷ codes "uses" ∷ u) ++ nl ≡ codes " " ++ (p ++ (codes " " ++ (s ++ (codes " uses" ++ end)))) =
+    spaced_is p (s ∷ codes "uses" ∷ u) nl ∙ ap (λ (t : List ℕ). codes " " ++ (p ++ t)) side_end in
+    let word_end : spaced (codes "product" ∷ p ∷ s ∷ codes "uses" ∷ u) ++ nl ≡ codes " product" ++ (codes " " ++ (p ++ (codes " " ++ (s ++ (codes " uses" ++ end))))) =
+    spaced_is (codes "product") (p ∷ s ∷ codes "uses" ∷ u) nl ∙ ap (λ (t : List ℕ). codes " product" ++ t) product_end in
+    let index_end : spaced (i ∷ codes "product" ∷ p ∷ s ∷ codes "uses" ∷ u) ++ nl
+    ≡ codes " " ++ (i ++ (codes " product" ++ (codes " " ++ (p ++ (codes " " ++ (s ++ (codes " uses" ++ end))))))) =
+    spaced_is i (codes "product" ∷ p ∷ s ∷ codes "uses" ∷ u) nl ∙ ap (λ (t : List ℕ). codes " " ++ (i ++ t)) word_end in
+    let line : line_text (step_words index step) ≡ codes "step" ++ (codes " " ++ (i ++ (codes " product" ++ (codes " " ++ (p ++ (codes " " ++ (s ++ (codes " uses" ++ end)))))))) =
+    line_is (codes "step") (i ∷ codes "product" ∷ p ∷ s ∷ codes "uses" ∷ u) ∙ ap (λ (t : List ℕ). codes "step" ++ t) index_end in
+    let front_s : (s ++ codes " uses") ++ end ≡ s ++ (codes " uses" ++ end) = append_assoc s (codes " uses") end in
+    let front_p : (p ++ (codes " " ++ (s ++ codes " uses"))) ++ end ≡ p ++ (codes " " ++ (s ++ (codes " uses" ++ end))) =
+    append_assoc p (codes " " ++ (s ++ codes " uses")) end ∙ ap (λ (t : List ℕ). p ++ (codes " " ++ t)) front_s in
+    let front_i : (i ++ (codes " product " ++ (p ++ (codes " " ++ (s ++ codes " uses"))))) ++ end
+    ≡ i ++ (codes " product " ++ (p ++ (codes " " ++ (s ++ (codes " uses" ++ end))))) =
+    append_assoc i (codes " product " ++ (p ++ (codes " " ++ (s ++ codes " uses")))) end ∙ ap (λ (t : List ℕ). i ++ (codes " product " ++ t)) front_p in
+    ap (λ (us : List ℕ). (codes "step " ++ (i ++ (codes " product " ++ (p ++ (codes " " ++ (s ++ codes " uses")))))) ++ (spaced (map decimal us) ++ nl)) e
+    ∙ ap (λ (t : List ℕ). codes "step " ++ t) front_i
+    ∙ sym line
+
+-- a number after a blank
+abbrev pub use_text : ℕ → List ℕ
+use_text number = codes " " ++ decimal number
+
+pub uses_are : (uses : List ℕ) → flat_map use_text uses ≡ spaced (map decimal uses)
+uses_are [] = refl
+uses_are (number ∷ uses) = ap (λ (rest : List ℕ). use_text number ++ rest) (uses_are uses)
+
+pub spaced_append : (a b : List (List ℕ)) → spaced (a ++ b) ≡ spaced a ++ spaced b
+spaced_append [] b = refl
+spaced_append (word ∷ a) b = ap (λ (rest : List ℕ). (codes " " ++ word) ++ rest) (spaced_append a b) ∙ sym (append_assoc (codes " " ++ word) (spaced a) (spaced b))
+
+-- steps
+steps_text_append : (k : ℕ) (a b : List Step) → steps_text k (a ++ b) ≡ steps_text k a ++ steps_text (k + length a) b
+steps_text_append k [] b = ap (λ (m : ℕ). steps_text m b) (omega arith)
+steps_text_append k (step ∷ a) b =
+    let place : suc k + length a ≡ k + suc (length a) = omega arith in
+    ap (λ (t : List ℕ). line_text (step_words k step) ++ t) (steps_text_append (suc k) a b ∙ ap (λ (m : ℕ). steps_text (suc k) a ++ steps_text m b) place)
+    ∙ sym (append_assoc (line_text (step_words k step)) (steps_text (suc k) a) (steps_text (k + suc (length a)) b))
+
+pub steps_text_more : (steps : List Step) (i : ℕ) (d : Step) → i < length steps
+    → steps_text 0 (take i steps) ++ line_text (step_words i (get_or steps i d)) ≡ steps_text 0 (take (i + 1) steps)
+steps_text_more steps i d h =
+    let step = get_or steps i d in
+    let len : 0 + length (take i steps) ≡ i = omega (arith, length-take-le i steps (omega arith)) in
+    sym
+    (ap (steps_text 0) (take_more steps i d h)
+    ∙ steps_text_append 0 (take i steps) (step ∷ [])
+    ∙ ap (λ (m : ℕ). steps_text 0 (take i steps) ++ steps_text m (step ∷ [])) len
+    ∙ ap (λ (t : List ℕ). steps_text 0 (take i steps) ++ t) (append-nil (line_text (step_words i step))))
+
+pub steps_text_around : (steps : List Step) (i : ℕ) (d : Step) → i < length steps
+    → steps_text 0 (take i steps) ++ (line_text (step_words i (get_or steps i d)) ++ steps_text (suc i) (drop (i + 1) steps)) ≡ steps_text 0 steps
+steps_text_around steps i d h =
+    let step = get_or steps i d in
+    let len : 0 + length (take i steps) ≡ i = omega (arith, length-take-le i steps (omega arith)) in
+    let rest : drop i steps ≡ step ∷ drop (i + 1) steps = drop-cons steps i d h ∙ ap (λ (m : ℕ). step ∷ drop m steps) (sym (add-one i)) in
+    sym
+    (ap (steps_text 0) (sym (take-append-drop i steps) ∙ ap (λ (l : List Step). take i steps ++ l) rest)
+    ∙ steps_text_append 0 (take i steps) (step ∷ drop (i + 1) steps)
+    ∙ ap (λ (m : ℕ). steps_text 0 (take i steps) ++ steps_text m (step ∷ drop (i + 1) steps)) len)
+
+-- columns
+leak_words_append : (a b : List Column) (la lb : List Bool) → length a ≡ length la → leak_words (a ++ b) (la ++ lb) ≡ leak_words a la ++ leak_words b lb
+leak_words_append [] b [] lb h = refl
+leak_words_append [] b (l ∷ la) lb h = absurd (omega arith)
+leak_words_append (c ∷ a) b [] lb h = absurd (omega arith)
+leak_words_append (c ∷ a) b (true ∷ la) lb h = ap (λ (ws : List (List ℕ)). column_text c ∷ ws) (leak_words_append a b la lb (omega arith))
+leak_words_append (c ∷ a) b (false ∷ la) lb h = leak_words_append a b la lb (omega arith)
+
+leak_text_append : (a b : List Column) (la lb : List Bool) → length a ≡ length la
+    → spaced (leak_words a la) ++ spaced (leak_words b lb) ≡ spaced (leak_words (a ++ b) (la ++ lb))
+leak_text_append a b la lb h = sym (ap spaced (leak_words_append a b la lb h) ∙ spaced_append (leak_words a la) (leak_words b lb))
+
+none_found : (columns : List Column) (c : ℕ) → c < length columns → None ≡ slice_get columns c → ⊥
+none_found [] c h e = absurd (omega arith)
+none_found (column ∷ columns) c h e = let some : slice_get (column ∷ columns) c ≡ Some (get_or (column ∷ columns) c column) = slice_get-get_or (column ∷ columns) c column h in cc
+
+pub columns_more : (columns : List Column) (leak : List Bool) (c : ℕ) (found : Option Column) (bit : Bool) → length leak ≡ length columns → c < length columns
+    → found ≡ slice_get columns c → bit ≡ get_or leak c false
+    → spaced (leak_words (take c columns) (take c leak)) ++ spaced (leak_words (option_to_list found) (bit ∷ [])) ≡ spaced (leak_words (take (c + 1) columns) (take (c + 1) leak))
+columns_more columns leak c None bit same h here is_bit = absurd (none_found columns c h here)
+columns_more columns leak c (Some column) bit same h here is_bit =
+    let lens : length (take c columns) ≡ length (take c leak) = length-take-le c columns (omega arith) ∙ sym (length-take-le c leak (omega arith)) in
+    leak_text_append (take c columns) (column ∷ []) (take c leak) (bit ∷ []) lens
+    ∙ ap (λ (cs : List Column). spaced (leak_words cs (take c leak ++ bit ∷ [])))
+    (ap (λ (x : Column). take c columns ++ x ∷ []) (sym (get_or_from_slice_get columns c column column (sym here))) ∙ sym (take_more columns c column h))
+    ∙ ap (λ (ls : List Bool). spaced (leak_words (take (c + 1) columns) ls)) (ap (λ (b : Bool). take c leak ++ b ∷ []) is_bit ∙ sym (take_more leak c false (omega arith)))
+
+pub columns_around : (columns : List Column) (leak : List Bool) (c : ℕ) (found : Option Column) (bit : Bool) → length leak ≡ length columns → c < length columns
+    → found ≡ slice_get columns c → bit ≡ get_or leak c false
+    → spaced (leak_words (take c columns) (take c leak))
+    ++ (spaced (leak_words (option_to_list found) (bit ∷ [])) ++ spaced (leak_words (drop (c + 1) columns) (drop (c + 1) leak)))
+    ≡ spaced (leak_words columns leak)
+columns_around columns leak c found bit same h here is_bit =
+    let lens : length (take (c + 1) columns) ≡ length (take (c + 1) leak) =
+    length-take-le (c + 1) columns (omega arith) ∙ sym (length-take-le (c + 1) leak (omega arith)) in
+    sym (append_assoc (spaced (leak_words (take c columns) (take c leak))) (spaced (leak_words (option_to_list found) (bit ∷ []))) (spaced (leak_words (drop (c + 1) columns) (drop (c + 1) leak))))
+    ∙ ap (λ (t : List ℕ). t ++ spaced (leak_words (drop (c + 1) columns) (drop (c + 1) leak))) (columns_more columns leak c found bit same h here is_bit)
+    ∙ leak_text_append (take (c + 1) columns) (drop (c + 1) columns) (take (c + 1) leak) (drop (c + 1) leak) lens
+    ∙ ap (λ (cs : List Column). spaced (leak_words cs (take (c + 1) leak ++ drop (c + 1) leak))) (take-append-drop (c + 1) columns)
+    ∙ ap (λ (ls : List Bool). spaced (leak_words columns ls)) (take-append-drop (c + 1) leak)
+
+-- the parts of the text
+pub attack_text_parts : (view : LinearView) (attack : Attack) (c p : ℕ) (steps : List Step) (uses : List ℕ) → c ≡ length view.columns → p ≡ length view.products
+    → steps ≡ attack.derivation.steps → uses ≡ attack.derivation.root
+    → head_text c p ++ (leak_text view.columns attack.derivation.leak ++ (counted_steps_text steps ++ (root_text uses ++ listing_text attack.listing))) ≡ attack_text view attack
+attack_text_parts view attack c p steps uses ec ep es eu =
+    ap (λ (n : ℕ). head_text n p ++ (leak_text view.columns attack.derivation.leak ++ (counted_steps_text steps ++ (root_text uses ++ listing_text attack.listing)))) ec
+    ∙ ap (λ (n : ℕ). head_text (length view.columns) n ++ (leak_text view.columns attack.derivation.leak ++ (counted_steps_text steps ++ (root_text uses ++ listing_text attack.listing)))) ep
+    ∙ ap (λ (x : List Step). head_text (length view.columns) (length view.products) ++ (leak_text view.columns attack.derivation.leak ++ (counted_steps_text x ++ (root_text uses ++ listing_text attack.listing)))) es
+    ∙ ap (λ (x : List ℕ). head_text (length view.columns) (length view.products) ++ (leak_text view.columns attack.derivation.leak ++ (counted_steps_text attack.derivation.steps ++ (root_text x ++ listing_text attack.listing)))) eu

@@ -1,0 +1,5 @@
+pub mod AttackText
+pub mod Forms
+pub mod Ranges
+pub mod Reading
+pub mod Parts

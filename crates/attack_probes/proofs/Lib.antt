@@ -1,0 +1,9 @@
+pub mod Attacking
+pub mod Levels
+pub mod Counting
+pub mod Stacking
+pub mod Spanning
+pub mod Reading
+pub mod Grouping
+pub mod Verdicts
+pub mod Ranges

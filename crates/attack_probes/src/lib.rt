@@ -1,0 +1,12 @@
+//! What a derivation unfolds to, and whether an attack holds.
+#![tactic(auto)]
+
+mod holding;
+mod laws;
+mod listing;
+#[cfg(test)]
+mod tests;
+
+pub use holding::holds;
+pub use laws::unfolding_is_attack;
+pub use listing::{MAX_PROBES, unfold};

@@ -1,0 +1,10 @@
+use Rattle.std.proofs.Common.{◌≡◌, ◌*◌, length}
+use Rattle.span_model.specs.Columns.{set_of}
+use Rattle.span_select.proofs.Growing.{IsRaising}
+use Rattle.span_select.proofs.words.raise.Given as goal
+
+abbrev pub invariant-loop-c : goal.invariant-loop-c
+invariant-loop-c l = record {
+  columns : length l.word ≡ 2 * length l.row;
+  raising : IsRaising (length l.row) (set_of l.row) l.c (set_of l.word);
+}

@@ -1,0 +1,4 @@
+pub mod Selection
+pub mod SelectionLaws
+pub mod RowGroups
+pub mod Words

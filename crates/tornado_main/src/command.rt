@@ -1,50 +1,43 @@
-ghost use Rattle.std.specs.Prelude.{◌≡◌, ℕ, List, Some, IfOk, IfErr, OnOk};
-ghost use Rattle.tornado_main.specs.Cause.{CauseOf};
-ghost use Rattle.tornado_main.specs.Circuit.{IsCoreText, IsRefusedFor};
-ghost use Rattle.tornado_main.specs.Exact.{IsTold, EndsAccepted, EndsRefused};
-ghost use Rattle.tornado_main.specs.Run.{WroteCore};
+ghost use Rattle.std.specs.Prelude.{◌≡◌, ◌⊎◌, ℕ, List, IfOk, IfErr, IsSome};
+ghost use Rattle.tornado_main.specs.Inputs.{Input, HasInput, HasFaultyData};
+ghost use Rattle.tornado_main.specs.Files.{FileIs};
+ghost use Rattle.tornado_main.specs.Source.{IsFaulty};
+ghost use Rattle.tornado_main.specs.Run.{WroteAnswer};
+ghost use Rattle.tornado_main.specs.Told.{AppendsAnswer};
+ghost use Rattle.tornado_main.specs.Words.{file_of};
+ghost use Rattle.tornado_main.specs.Cause.{IsEnd};
+ghost use Rattle.tornado_main.specs.Ends.{EndsWith, EndsAtSource, EndsAtData};
 ghost use Rattle.tornado_main.specs.declared.refusal.SourceFault.{SourceFault};
-ghost use Rattle.tornado_main.specs.declared.refusal.Refusal.TheVariants.{Memory};
-ghost use Rattle.usuba0.specs.CoreText.{core_text};
+ghost use Rattle.tornado_main.specs.declared.refusal.DataFault.{DataFault};
 
+use crate::answer::answer_of;
 use crate::refusal::Refusal;
-use flatten::core_of;
+use crate::status::Status;
+use crate::words::Order;
 use std::alloc::Global;
-use tor_edge::{Draft, Files, Sink, put_bytes};
-use usuba_syntax::read_file;
-use usuba0::{Core, write_core};
+use tor_edge::{Files, Sink, put_bytes};
 
-/// Fetches the file, reads it, flattens it, and writes the text of its core.
-pub fn print_core<F: Files, O: Sink>(
+/// Carries out an order: all of its work is done before the first byte of its answer is written.
+pub fn carry_out<'a, F: Files, O: Sink>(
     alloc: Global,
-    name: &str,
+    order: &'a Order,
     files: &mut F,
     out: &mut O,
-) -> Result<(), Refusal>
+) -> Result<Status, Refusal<'a>>
     ensures contents_stay { F.contents files.new ≡ F.contents files.old }
-    ensures done { OnOk result (WroteCore (F.contents files.old) name.now (O.written out.old) (O.written out.new)) }
-    ensures refused { IfErr result (CauseOf F.faults F.too_long F.refused F.contents O.faults O.written name.now files.old files.new out.old out.new) }
-    ensures accepts { (bytes text : List ℕ) → IsTold (F.contents files.old) name.now bytes → IsCoreText bytes text
-        → EndsAccepted (O.written out.old) (O.written out.new) text result }
-    ensures refuses { (bytes : List ℕ) (fault : SourceFault) → IsTold (F.contents files.old) name.now bytes → IsRefusedFor bytes fault
-        → EndsRefused fault result }
+    ensures status { IfOk result (λ status. (status ≡ Status.Done) ⊎ (status ≡ Status.Found)) }
+    ensures answer { IfOk result (λ status. WroteAnswer (F.contents files.old) order.now status (O.written out.old) (O.written out.new)) }
+    ensures refused { IfErr result (λ refusal. IsEnd F.faults F.too_long F.refused F.contents O.faults O.written order.now files.old files.new out.old out.new refusal) }
+    ensures accepts { (input : Input order.now) → IsSome (F.contents files.old) → HasInput (F.contents files.old) order.now input
+        → EndsWith (λ status. AppendsAnswer order.now input (O.written out.old) (O.written out.new) status) result }
+    ensures refuses_source { (fault : SourceFault) → IsSome (F.contents files.old) → FileIs (F.contents files.old) (file_of order.now) (IsFaulty fault)
+        → EndsAtSource (file_of order.now) fault result }
+    ensures refuses_data { (name : List ℕ) (fault : DataFault) → IsSome (F.contents files.old) → HasFaultyData (F.contents files.old) order.now name fault
+        → EndsAtData name fault result }
 {
-    let bytes = files.fetch(alloc, name)?;
-    let file = read_file(alloc, bytes.as_slice())?;
-    let core = core_of(alloc, &file)?;
-    let draft = draft_of(alloc, &core)?;
-    put_bytes(out, draft.text())?;
-    Ok(())
-}
-
-// The text is collected before any of it is written, so that memory can't be wanting after the first byte.
-fn draft_of(alloc: Global, core: &Core) -> Result<Draft, Refusal>
-    ensures text { IfOk result (λ draft. ⟦<Draft as Sink>⟧.written draft ≡ Some (core_text core.now)) }
-    ensures refused { IfErr result (λ refusal. refusal ≡ Memory) }
-{
-    let mut draft = Draft::new(alloc);
-    match write_core(core, &mut draft) {
-        Ok(()) => Ok(draft),
-        Err(_) => Err(Refusal::Memory),
+    let answer = answer_of(alloc, order, files)?;
+    match put_bytes(out, answer.text.text()) {
+        Ok(()) => Ok(answer.status),
+        Err(_) => Err(Refusal::Unwritten),
     }
 }

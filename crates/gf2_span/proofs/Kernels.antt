@@ -1,11 +1,11 @@
 -- The loops over words.
-use Rattle.std.proofs.Common.{◌≡◌, ℕ, suc, pow-suc, min, bit_and, true, Option, Some, None, MatchOption, ◌+◌, ◌-◌, ◌*◌, ◌/◌, ◌%◌, ◌^◌, ◌<◌, ◌≤◌, false, List, length, get_or, bit_xor, eqb, Fits, refl, sym, ap, ◌∙◌, subst, inl, inr, arith}
-use Rattle.std.specs.Simd.Lanes.{zip2, chunk, put_chunk}
+use Rattle.std.proofs.Common.{◌∷◌, [], zero, bit_or, ◌≡◌, ℕ, suc, pow-suc, min, bit_and, true, Option, Some, None, MatchOption, ◌+◌, ◌-◌, ◌*◌, ◌/◌, ◌%◌, ◌^◌, ◌<◌, ◌≤◌, false, List, length, get_or, bit_xor, eqb, Fits, refl, sym, ap, ◌∙◌, subst, inl, inr, arith}
+use Rattle.std.specs.Simd.Lanes.{zip2, chunk, put_chunk, fold_l}
 use Rattle.std.specs.Int.{bit_at, trailing_zeros, w64}
 use Rattle.std.proofs.lemmas.Simd.{length-chunk, length-zip2, length-put_chunk, get_or-zip2, get_or-chunk, get_or-put_chunk_at, get_or-put_chunk_below, get_or-put_chunk_above}
 use Rattle.std.proofs.lemmas.Bool.{cases_lt, eqb-false}
 use Rattle.std.proofs.lemmas.List.{same_lists, get_or_default, get_or_past}
-use Rattle.std.proofs.lemmas.Nat.{xor_comm}
+use Rattle.std.proofs.lemmas.Nat.{xor_comm, le_or_l, le_or_r}
 use Rattle.std.proofs.lemmas.Nat.Bits.{bit_at-zero, bit_at-trailing_zeros, bit_at-lt, same_from_bits_below, bit_at_and, bit_at_ones, bit_at_ones_above, bit_at_above, bit_at_cat_high}
 use Rattle.gf2_span.specs.Words.{is_set, IsLastBelow}
 use Rattle.gf2_span.specs.Rows.{IsFirst}
@@ -60,7 +60,7 @@ none_set words at past zeros c =
     ap (λ w. eqb (bit_at w (c % 64)) 1) zero_word ∙ ap (λ b. eqb b 1) (bit_at-zero (c % 64))
 
 -- no column is set in a word that is zero
-zero_unset : (words : List ℕ) (c : ℕ) → get_or words (c / 64) 0 ≡ 0 → is_set words c ≡ false
+pub zero_unset : (words : List ℕ) (c : ℕ) → get_or words (c / 64) 0 ≡ 0 → is_set words c ≡ false
 unfolding is_set
 zero_unset words c zero_word = ap (λ w. eqb (bit_at w (c % 64)) 1) zero_word ∙ ap (λ b. eqb b 1) (bit_at-zero (c % 64))
 
@@ -217,3 +217,20 @@ last_wider words place end (Some b) fits none found = record {
   there = found.there;
   none_after = λ c after before. elim (cases_lt c place) [ inl lt ↦ found.none_after c after lt | inr ge ↦ none c ge before ];
 }
+
+-- where the `or` of words is zero, so is what it began with
+start_zero : (words : List ℕ) (start : ℕ) → fold_l bit_or start words ≡ 0 → start ≡ 0
+start_zero [] start e = e
+start_zero (word ∷ words) start e = omega (arith, le_or_l start word, start_zero words (bit_or start word) e)
+
+-- and each word
+pub word_zero : (words : List ℕ) (start k : ℕ) → fold_l bit_or start words ≡ 0 → get_or words k 0 ≡ 0
+word_zero [] start k e = refl
+word_zero (word ∷ words) start zero e = omega (arith, le_or_r start word, start_zero words (bit_or start word) e)
+word_zero (word ∷ words) start (suc k) e = word_zero words (bit_or start word) k e
+
+-- the words of a block whose `or` is zero
+pub block_zero : (words : List ℕ) (at k : ℕ) → fold_l bit_or 0 (chunk at 8 words) ≡ 0 → at ≤ k → k < at + 8 → get_or words k 0 ≡ 0
+block_zero words at k e low high =
+    let same : at + (k - at) ≡ k = omega arith in
+    subst (λ i. get_or words i 0 ≡ 0) same (sym (get_or-chunk at 8 words (k - at) 0 (omega arith)) ∙ word_zero (chunk at 8 words) 0 (k - at) e)

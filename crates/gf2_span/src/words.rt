@@ -1,5 +1,6 @@
 // The words of a row, 64 columns each, and the loops over them.
 ghost use Rattle.std.specs.Prelude.{◌≡◌, ℕ, ◌+◌, ◌*◌, ◌<◌, ◌≤◌, ◌^◌, ◌≢◌, length, slice_index, vec_len, bit_xor, MatchOption, false};
+ghost use Rattle.std.specs.Bool.{OnTrue};
 ghost use Rattle.std.specs.Simd.Lanes.{zip2, chunk, put_chunk};
 ghost use Rattle.gf2_span.specs.Rows.{IsFirst};
 ghost use Rattle.gf2_span.specs.Words.{is_set, IsLastBelow};
@@ -63,13 +64,34 @@ pub(crate) fn first_bit(words: &[u64]) -> Option<usize>
     None
 }
 
+// Whether eight words are zero.
+fn lanes_are_zero(words: &[u64], at: usize) -> bool
+    requires room { at + 8 ≤ length words.now }
+    ensures { OnTrue result ((k : ℕ) → at ≤ k → k < at + 8 → slice_index words.now k ≡ 0) }
+{
+    u64x8::from_slice(&words[at..]).reduce_or() == 0
+}
+
+// How many of so many words are left without some of the zero words at their end, which are taken eight at a time.
+fn trimmed(words: &[u64], many: usize) -> usize
+    requires within { many ≤ length words.now }
+    ensures within { result ≤ many }
+    ensures zero { (k : ℕ) → result ≤ k → k < many → slice_index words.now k ≡ 0 }
+{
+    let mut at = many;
+    while at >= LANES && lanes_are_zero(words, at - LANES) {
+        at -= LANES;
+    }
+    at
+}
+
 // The place of the last one in so many words.
 fn last_in_words(words: &[u64], many: usize) -> Option<usize>
     requires short { length words.now < 2 ^ 32 }
     requires within { many ≤ length words.now }
     ensures { MatchOption result ((c : ℕ) → c < 64 * many → is_set words.now c ≡ false) (λ b. IsLastBelow (is_set words.now) (64 * many) b) }
 {
-    let mut at = many;
+    let mut at = trimmed(words, many);
     while at > 0 {
         at -= 1;
         let word = words[at];

@@ -1,6 +1,12 @@
-use Rattle.std.proofs.Common.{◌*◌, ◌-◌, ◌≡◌, get_or, arith}
-use Rattle.gf2_span.proofs.Kernels.{last_of_word, none_in_word}
+use Rattle.std.proofs.Common.{◌*◌, ◌/◌, ◌-◌, ◌≡◌, get_or, arith}
+use Rattle.gf2_span.proofs.Kernels.{last_of_word, none_in_word, zero_unset}
 use Rattle.gf2_span.proofs.words.last_in_words.Goals as goal
+
+pub loop-at-init : goal.loop-at-init
+loop-at-init c = record {
+  within = c.trimmed-at.ensures.within;
+  none = λ d low high. zero_unset c.args.words.now d (c.trimmed-at.ensures.zero (d / 64) (omega arith) (omega arith));
+}
 
 pub returns-then-word-ne0 : goal.returns-then-word-ne0
 returns-then-word-ne0 c =

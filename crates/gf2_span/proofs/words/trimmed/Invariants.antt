@@ -1,0 +1,8 @@
+use Rattle.std.proofs.Common.{◌<◌, ◌≤◌, ◌≡◌, ℕ, slice_index}
+use Rattle.gf2_span.proofs.words.trimmed.Given as goal
+
+abbrev pub invariant-loop-at : goal.invariant-loop-at
+invariant-loop-at l = record { within : l.at ≤ l.many; zero : (k : ℕ) → l.at ≤ k → k < l.many → slice_index l.words k ≡ 0 }
+
+abbrev pub decreases-loop-at : goal.decreases-loop-at
+decreases-loop-at l = l.at

@@ -2,16 +2,17 @@
 use Rattle.std.proofs.Common.{◌≡◌, ◌≢◌, ◌⊎◌, ℕ, ◌<◌, ◌≤◌, Bool, true, false, List, [], ◌∷◌, length, get_or, ◌∙◌, subst, arith, MatchBool}
 use Rattle.std.specs.List.{Contains}
 use Rattle.std.proofs.lemmas.List.{get_or_default}
-use Rattle.span_model.specs.Columns.{Columns, empty}
+use Rattle.span_model.specs.Columns.{Columns, empty, sets_of}
 use Rattle.span_model.specs.Span.{InSpan, Spans, SameSpan}
 use Rattle.span_model.specs.Attack.{Product, IsLeak, HasAttack}
-use Rattle.span_model.proofs.Members.{in_head}
+use Rattle.span_model.proofs.Members.{in_head, in_none}
 use Rattle.gf2_span.specs.Basis.{Basis, row_sets}
 use Rattle.tightprove.specs.Classes.{class_rows, AreClassesOf, MeetEmpty, IsClean, KeepsLeaks}
 use Rattle.tightprove.specs.Growth.{IsGrown, IsSaturated, ArePieces, span_at}
 use Rattle.tightprove.specs.Tasks.{HoldLeaks}
 use Rattle.tightprove.specs.declared.class.Class.{Class}
-use Rattle.tightprove.proofs.Closures.{grown_leak, leak_in_grown, pieces_hold, all_clean}
+use Rattle.tightprove.proofs.Calls.{empty_list}
+use Rattle.tightprove.proofs.Closures.{leak_some, grown_leak, leak_in_grown, pieces_hold, all_clean}
 use Rattle.tightprove.proofs.Pending.{clean_within}
 
 match_same : (r : Bool) (P Q : Type 0) → (P → Q) → (Q → P) → MatchBool r P (¬ P) → MatchBool r Q (¬ Q)
@@ -38,6 +39,19 @@ split_pieces classes candidates rest span pieces columns keeps rank apart split 
   columns = λ n lt. split.columns n lt ∙ columns;
   proper = λ n lt. (let h : length (span_at pieces n).rows < length rest.rows = split.proper n lt in omega (arith, h));
   leaks = λ products are v m leak. pieces_hold classes rest span pieces split apart products are v (keeps products are v m leak) leak;
+}
+
+-- candidates of which nothing is left have no leaks, which no pieces hold
+pub split_none : (classes : List Class) (candidates rest : Basis) → KeepsLeaks classes (row_sets candidates) (row_sets rest) → length rest.rows ≡ 0
+    → HoldLeaks classes candidates []
+split_none classes candidates rest keeps none = record {
+  few = omega arith;
+  columns = λ n lt. absurd (omega arith);
+  proper = λ n lt. absurd (omega arith);
+  leaks = λ products are v m leak. absurd (
+      let P : List (List Bool) → Type 0 = λ rows. InSpan (sets_of rows) v in
+      leak_some products v leak (in_none v (subst P (empty_list rest.rows none) (keeps products are v m leak)))
+      );
 }
 
 -- a class whose rows are in a clean span is clean

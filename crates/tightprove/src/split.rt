@@ -26,6 +26,9 @@ pub(crate) fn search_span(
     ensures { IfOk result (λ split. IsSplitOf classes.now.list.items candidates.now split) }
 {
     let rest = shrink(alloc, classes, candidates)?;
+    if rest.rank() == 0 {
+        return Ok(Split::Pieces(Vec::new(alloc)));
+    }
     let span = grow(alloc, classes, &rest)?;
     match common_member(alloc, &rest, &span)? {
         Some(leak) => Ok(Split::Found(leak)),

@@ -1,12 +1,16 @@
-use Rattle.std.proofs.Common.{◌≡◌, ◌≢◌, ◌∙◌, length, subst, List, Bool, Option}
+use Rattle.std.proofs.Common.{◌≡◌, ◌≢◌, ◌∙◌, length, subst, List, Bool, Option, sym}
 use Rattle.std.specs.Prelude.{MatchOption}
 use Rattle.span_model.specs.Columns.{set_of, empty}
 use Rattle.span_model.specs.Span.{InSpan}
 use Rattle.gf2_span.specs.Basis.{row_sets}
 use Rattle.tightprove.specs.Classes.{MeetEmpty}
 use Rattle.tightprove.proofs.Closures.{grown_leak}
-use Rattle.tightprove.proofs.Verdicts.{split_pieces}
+use Rattle.tightprove.proofs.Verdicts.{split_none, split_pieces}
 use Rattle.tightprove.proofs.split.search_span.Goals as goal
+
+pub returns-then-rank-eq0 : goal.returns-then-rank-eq0
+returns-then-rank-eq0 c = rw c.new.ensures.items
+    (split_none c.args.classes.now.list.items c.args.candidates.now c.in_ok-rest.rest c.in_ok-rest.ensures.leaks (sym c.rank.ensures.value ∙ c.if-rank-eq0.true))
 
 pub returns-in-Some : goal.returns-in-Some
 returns-in-Some c =

@@ -2,6 +2,7 @@
 pub mod Calls
 pub mod Closures
 pub mod Gathering
+pub mod Leading
 pub mod Passes
 pub mod Pending
 pub mod Taking

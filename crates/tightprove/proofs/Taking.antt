@@ -9,6 +9,7 @@ use Rattle.span_model.specs.Columns.{Columns, sets_of}
 use Rattle.span_model.specs.Span.{Spans, SameSpan}
 use Rattle.span_model.proofs.Members.{in_behind, in_front, spans_both}
 use Rattle.gf2_span.specs.Basis.{Basis, row_sets}
+use Rattle.gf2_span.specs.Rows.{HaveOwnLeads}
 use Rattle.tightprove.specs.Classes.{class_at, class_rows, IsPartner, AreClasses}
 use Rattle.tightprove.specs.Growth.{rows_of_all, IsGrowth, IsGrown}
 use Rattle.tightprove.specs.declared.class.Class.{Class}
@@ -29,6 +30,12 @@ wide_at columns classes i one rows are lt is e =
 pub rows_at : (classes : List Class) (i : ℕ) (one : Class) (rows : List (List Bool)) → i < length classes → one ≡ get_or classes i one → rows ≡ one.rows
     → sets_of rows ≡ class_rows classes i
 rows_at classes i one rows lt is e = ap sets_of (e ∙ ap (λ (c : Class). c.rows) (sym (class_is classes i one lt is)))
+
+pub own_at : (columns : ℕ) (classes : List Class) (i : ℕ) (one : Class) (rows : List (List Bool)) → AreClasses columns classes → i < length classes
+    → one ≡ get_or classes i one → rows ≡ one.rows → HaveOwnLeads (sets_of rows)
+own_at columns classes i one rows are lt is e =
+    let P : List (Columns ℕ) → Type 0 = λ r. HaveOwnLeads r in
+    subst P (sym (rows_at classes i one rows lt is e)) (are.leads i)
 
 pub partners_at : (classes : List Class) (i : ℕ) (one : Class) (js : List ℕ) → i < length classes → one ≡ get_or classes i one → js ≡ one.partners
     → js ≡ (class_at classes i).partners

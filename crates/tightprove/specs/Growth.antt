@@ -5,6 +5,7 @@ use Rattle.span_model.specs.Span.{InSpan, Spans}
 use Rattle.span_model.specs.Attack.{Product}
 use Rattle.span_model.specs.Closure.{Step, IsChain, co_operands}
 use Rattle.gf2_span.specs.Basis.{Basis, row_sets}
+use Rattle.gf2_span.specs.Rows.{IsLast, LeadsNoMember}
 use Rattle.tightprove.specs.Classes.{class_rows, IsPartner, AreClassesOf, IsClean}
 use Rattle.tightprove.specs.declared.class.Class.{Class}
 use Rattle.tightprove.specs.declared.growth.Growth.{Growth}
@@ -17,6 +18,10 @@ rows_of_all classes (i ∷ more) = class_rows classes i ++ rows_of_all classes m
 -- what the rows with the span have in common with the candidates lies within the span
 abbrev pub MeetsWithin : (candidates rows span : List (Columns ℕ)) → Type 0
 MeetsWithin candidates rows span = (v : Columns ℕ) → InSpan candidates v → InSpan (rows ++ span) v → InSpan span v
+
+-- the row is in the span, or its greatest column is that of no member of the joint span
+abbrev pub LeadsWithin : (span joint : List (Columns ℕ)) → (row : Columns ℕ) → Type 0
+LeadsWithin span joint row = InSpan span row ⊎ ((c : ℕ) → IsLast row c → LeadsNoMember joint c)
 
 -- the span holds the co-operand of each step whose operand meets, with the span, the candidates outside the span
 abbrev pub IsHull : List Class → (candidates span : List (Columns ℕ)) → Type 0

@@ -1,13 +1,14 @@
 ghost use Rattle.std.specs.Prelude.{◌≡◌, ◌<◌, ◌≤◌, ◌⊎◌, ◌++◌, ℕ, [], length, true, slice_index_or, slice_set, IfOk, OnOk, MatchBool};
 ghost use Rattle.std.specs.Bool.{OnFalse};
-ghost use Rattle.span_model.specs.Columns.{sets_of};
+ghost use Rattle.span_model.specs.Columns.{set_of, sets_of};
 ghost use Rattle.span_model.specs.Span.{Spans, SameSpan};
 ghost use Rattle.gf2_span.specs.Basis.{row_sets};
+ghost use Rattle.gf2_span.specs.Rows.{HaveOwnLeads};
 ghost use Rattle.tightprove.specs.Classes.{class_at, class_rows, IsGathered, KeepsLeaks};
-ghost use Rattle.tightprove.specs.Growth.{rows_of_all, MeetsWithin, IsHull, IsGrown, IsSaturated, HasRowOutside, IsGrowth, MeetsNoMore, HoldsNoMore, left_over};
+ghost use Rattle.tightprove.specs.Growth.{rows_of_all, MeetsWithin, LeadsWithin, IsHull, IsGrown, IsSaturated, HasRowOutside, IsGrowth, MeetsNoMore, HoldsNoMore, left_over};
 
 use crate::classes::{Classes, insert_all, touching};
-use gf2_span::{BitRow, Span};
+use gf2_span::{BitRow, Span, leads_are_kept};
 use std::alloc::{AllocError, Global};
 
 /// A span of co-operands that grows for a span of candidates, the span of both together, and for each class whether its partners are taken.
@@ -57,20 +58,74 @@ impl Growth {
     }
 }
 
+// Whether the row is outside the span, and its greatest column is that of a member of the joint span. Where it is not so, the answer is exact.
+fn leads_outside(
+    alloc: Global,
+    row: &BitRow,
+    span: &Span,
+    joint: &Span,
+    scratch: &mut BitRow,
+) -> Result<bool, AllocError>
+    requires row { length row.now ≡ span.now.columns }
+    requires joint { joint.now.columns ≡ span.now.columns }
+    requires scratch { length scratch.old ≡ span.now.columns }
+    ensures answer { IfOk result (λ outside. OnFalse outside (LeadsWithin (row_sets span.now) (row_sets joint.now) (set_of row.now))) }
+    ensures scratch { length scratch.new ≡ length scratch.old }
+{
+    if span.contains(row, scratch) {
+        return Ok(false);
+    }
+    let mut rest = row.copy(alloc)?;
+    Ok(joint.reduce_last(&mut rest) != row.last())
+}
+
+// Whether one of the rows leads outside. Where none does, the rows hold with the span no more of the joint span than the span.
+fn any_leads_outside(
+    alloc: Global,
+    rows: &[BitRow],
+    span: &Span,
+    joint: &Span,
+    scratch: &mut BitRow,
+) -> Result<bool, AllocError>
+    requires wide { (k : ℕ) → k < length rows.now → length (slice_index_or rows.now k []) ≡ span.now.columns }
+    requires joint { joint.now.columns ≡ span.now.columns }
+    requires scratch { length scratch.old ≡ span.now.columns }
+    requires own { HaveOwnLeads (sets_of rows.now) }
+    requires span_in { Spans (row_sets joint.now) (row_sets span.now) }
+    ensures answer { IfOk result (λ outside. OnFalse outside (MeetsWithin (row_sets joint.now) (sets_of rows.now) (row_sets span.now))) }
+    ensures scratch { length scratch.new ≡ length scratch.old }
+{
+    for row in rows {
+        if leads_outside(alloc, row, span, joint, scratch)? {
+            return Ok(true);
+        }
+    }
+    leads_are_kept();
+    Ok(false)
+}
+
 // Whether the rows hold with the span some of the candidates outside the span. Where they do not, the answer is exact.
 fn meets_outside(
     alloc: Global,
     candidates: &Span,
     rows: &[BitRow],
     span: &Span,
+    joint: &Span,
     scratch: &mut BitRow,
 ) -> Result<bool, AllocError>
     requires same { candidates.now.columns ≡ span.now.columns }
     requires wide { (k : ℕ) → k < length rows.now → length (slice_index_or rows.now k []) ≡ span.now.columns }
+    requires joint { joint.now.columns ≡ span.now.columns }
     requires scratch { length scratch.old ≡ span.now.columns }
+    requires own { HaveOwnLeads (sets_of rows.now) }
+    requires candidates_in { Spans (row_sets joint.now) (row_sets candidates.now) }
+    requires span_in { Spans (row_sets joint.now) (row_sets span.now) }
     ensures answer { IfOk result (λ outside. OnFalse outside (MeetsWithin (row_sets candidates.now) (sets_of rows.now) (row_sets span.now))) }
     ensures scratch { length scratch.new ≡ length scratch.old }
 {
+    if !any_leads_outside(alloc, rows, span, joint, scratch)? {
+        return Ok(false);
+    }
     let meet = Span::meet_sum(alloc, candidates, rows, span)?;
     Ok(!meet.is_within(span, scratch))
 }
@@ -119,6 +174,7 @@ fn take_if_meets(
         candidates,
         classes.list[i].rows.as_slice(),
         &growth.span,
+        &growth.joint,
         scratch,
     )? {
         return Ok(false);

@@ -42,7 +42,7 @@ same_both span other rows n false Other past inside same within = tt
 -- ---- a growing span at its start
 
 pub growth_starts : (classes : List Class) (candidates : Basis) (growth : Growth) (columns n : ℕ) → candidates.columns ≡ columns
-    → growth.span ≡ record { columns = columns; rows = [] } → growth.joint ≡ candidates → growth.taken.items ≡ replicate n false → n ≡ length classes
+    → growth.span ≡ record { columns = columns; rows = [] } → growth.joint ≡ candidates → growth.taken ≡ replicate n false → n ≡ length classes
     → IsGrowth classes candidates growth
 growth_starts classes candidates growth columns n wide span joint taken count =
     let P : Basis → Type 0 = λ b. Spans (row_sets b) (row_sets candidates) in
@@ -53,7 +53,7 @@ growth_starts classes candidates growth columns n wide span joint taken count =
       flags = ap length taken ∙ length-replicate n false ∙ count;
       candidates_in = subst P (sym joint) (λ v m. m);
       span_in = subst Q (sym span) (spans_none (row_sets growth.joint));
-      taken = λ i j on partner. absurd (let off : get_or growth.taken.items i false ≡ false = ap (λ (x : List Bool). get_or x i false) taken ∙ none n i in cc (off, on));
+      taken = λ i j on partner. absurd (let off : get_or growth.taken i false ≡ false = ap (λ (x : List Bool). get_or x i false) taken ∙ none n i in cc (off, on));
     }
   where
     none : (n i : ℕ) → get_or (replicate n false) i false ≡ false

@@ -72,13 +72,13 @@ common_within rows joint span law own held each (suc n) v ends m j =
     common_next rows joint span law own held each n (common_within rows joint span law own held each n) v (λ c past. ends c (omega arith)) m j (v n) refl
 
 -- rows, each in the span or with a greatest column that leads no member of the joint span, hold with the span no more of it than the span
-pub leads_within : (rows candidates joint span : List (Columns ℕ)) → LeadsAreKept → HaveOwnLeads rows → Spans joint candidates → Spans joint span
-    → ((k : ℕ) → k < length rows → LeadsWithin span joint (get_or rows k empty)) → MeetsWithin candidates rows span
-leads_within rows candidates joint span law own of_candidates of_span each v m h =
+leads_within : (rows joint span : List (Columns ℕ)) → LeadsAreKept → HaveOwnLeads rows → Spans joint span
+    → ((k : ℕ) → k < length rows → LeadsWithin span joint (get_or rows k empty)) → MeetsWithin joint rows span
+leads_within rows joint span law own held each v m h =
     let p = in_parts rows span v h in
-    let shared : InSpan joint p.0 = in_as joint (ap (λ (u : Columns ℕ). u △ p.1) (sym p.4) ∙ △_cancel_right p.0 p.1) (in_sum joint v p.1 (of_candidates v m) (of_span p.1 p.3)) in
+    let shared : InSpan joint p.0 = in_as joint (ap (λ (u : Columns ℕ). u △ p.1) (sym p.4) ∙ △_cancel_right p.0 p.1) (in_sum joint v p.1 m (held p.1 p.3)) in
     let bound = all_end_before rows own.some in
-    in_as span p.4 (in_sum span p.0 p.1 (common_within rows joint span law own of_span each bound.0 p.0 (bound.1 p.0 p.2) p.2 shared) p.3)
+    in_as span p.4 (in_sum span p.0 p.1 (common_within rows joint span law own held each bound.0 p.0 (bound.1 p.0 p.2) p.2 shared) p.3)
 
 -- a row whose greatest column stays when it is reduced by the joint span has a greatest column that leads no member of it
 led_same : (joint : List (Columns ℕ)) (row rest : Columns ℕ) (before after : Option ℕ) (n : ℕ)
@@ -117,11 +117,11 @@ led_more span joint rows i row h is below here k less = elim (cases_lt k i) [
 ]
 
 -- all rows
-pub led_end : (candidates joint span : List (Columns ℕ)) (rows : List (List Bool)) (n : ℕ) → LeadsAreKept → HaveOwnLeads (sets_of rows)
-    → Spans joint candidates → Spans joint span → length rows ≤ n
-    → ((k : ℕ) → k < n → LeadsWithin span joint (set_of (get_or rows k []))) → MeetsWithin candidates (sets_of rows) span
-led_end candidates joint span rows n law own of_candidates of_span past each =
-    leads_within (sets_of rows) candidates joint span law own of_candidates of_span (λ k h.
+pub led_end : (joint span : List (Columns ℕ)) (rows : List (List Bool)) (n : ℕ) → LeadsAreKept → HaveOwnLeads (sets_of rows)
+    → Spans joint span → length rows ≤ n
+    → ((k : ℕ) → k < n → LeadsWithin span joint (set_of (get_or rows k []))) → MeetsWithin joint (sets_of rows) span
+led_end joint span rows n law own held past each =
+    leads_within (sets_of rows) joint span law own held (λ k h.
     let within : k < length rows = omega (arith, h, length-map rows set_of) in
     let P : Columns ℕ → Type 0 = λ v. LeadsWithin span joint v in
     subst P (sym (get_or-map set_of rows k [] empty within)) (each k (omega arith)))

@@ -24,9 +24,9 @@ left_less flags i lt off =
     let one : f (get_or flags i false) ≡ 1 = ap f off in
     let less : sum_by f (set flags i true) < sum_by f flags = omega arith in less
 
-pub take_less : (before now : Growth) (i : ℕ) → i < length before.taken.items → get_or before.taken.items i false ≡ false
-    → now.taken.items ≡ set before.taken.items i true → left_over now < left_over before
-take_less before now i lt off is = rw is (left_less before.taken.items i lt off)
+pub take_less : (before now : Growth) (i : ℕ) → i < length before.taken → get_or before.taken i false ≡ false
+    → now.taken ≡ set before.taken i true → left_over now < left_over before
+take_less before now i lt off is = rw is (left_less before.taken i lt off)
 
 -- ---- a pass for the hull
 

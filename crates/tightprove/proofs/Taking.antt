@@ -1,5 +1,5 @@
 -- A growing span that takes the partners of a class.
-use Rattle.std.proofs.Common.{◌≡◌, inl, inr, ℕ, ◌+◌, ◌<◌, ◌≤◌, suc, zero, Bool, true, false, List, [], ◌∷◌, ◌++◌, length, get_or, set, take, sym, ap, ◌∙◌, subst, arith, MatchBool}
+use Rattle.std.proofs.Common.{◌≡◌, inl, inr, ℕ, ◌+◌, ◌<◌, ◌≤◌, suc, zero, Bool, true, false, not, List, [], ◌∷◌, ◌++◌, length, get_or, set, take, sym, ap, ◌∙◌, subst, arith, MatchBool}
 use native.Mathlib.Nat.{le_of_suc-le-suc}
 use Rattle.std.specs.List.{Contains}
 use Rattle.std.proofs.lemmas.List.{append_assoc, append-nil, get_or_default, get_or-set_other, length-set, take_all, take_more}
@@ -88,8 +88,13 @@ all_end classes base sum js partners n past e same =
     let P : List ℕ → Type 0 = λ xs. SameSpan sum (base ++ rows_of_all classes xs) in
     subst P (take_all n js past ∙ e) same
 
+-- a flag that was off is flipped
+pub flag_set : (flags same flipped : List Bool) (i : ℕ) → same ≡ flags → get_or flags i false ≡ false → flipped ≡ set same i (not (get_or same i false))
+    → flipped ≡ set flags i true
+flag_set flags same flipped i e off is = is ∙ ap (λ (x : List Bool). set x i (not (get_or x i false))) e ∙ ap (λ (b : Bool). set flags i (not b)) off
+
 pub growth_taken : (classes : List Class) (candidates : Basis) (before after : Growth) (i : ℕ) → IsGrowth classes candidates before
-    → after.span.columns ≡ before.span.columns → after.joint.columns ≡ before.joint.columns → after.taken.items ≡ set before.taken.items i true
+    → after.span.columns ≡ before.span.columns → after.joint.columns ≡ before.joint.columns → after.taken ≡ set before.taken i true
     → SameSpan (row_sets after.span) (row_sets before.span ++ rows_of_all classes (class_at classes i).partners)
     → SameSpan (row_sets after.joint) (row_sets before.joint ++ rows_of_all classes (class_at classes i).partners)
     → IsGrowth classes candidates after
@@ -98,7 +103,7 @@ growth_taken classes candidates before after i is columns joint_columns taken sp
     record {
       columns = columns ∙ is.columns;
       joint_columns = joint_columns ∙ is.joint_columns;
-      flags = ap length taken ∙ length-set before.taken.items i true ∙ is.flags;
+      flags = ap length taken ∙ length-set before.taken i true ∙ is.flags;
       candidates_in = λ v m. (joint v).1 (in_behind (row_sets before.joint) all v (is.candidates_in v m));
       span_in = λ v m. (joint v).1 (spans_beside (row_sets before.span) (row_sets before.joint) all all is.span_in (spans_self all) v ((span v).0 m));
       taken = λ a j on partner. elim (cases_eq a i) [
@@ -106,7 +111,7 @@ growth_taken classes candidates before after i is columns joint_columns taken sp
             let P : ℕ → Type 0 = λ k. IsPartner classes k j in
             λ v m. (span v).1 (in_front (row_sets before.span) all v (all_hold classes (class_at classes i).partners j (subst P same partner) v m))
         | inr other ↦
-            let was : get_or before.taken.items a false ≡ true = sym (get_or-set_other before.taken.items i a true false other) ∙ sym (ap (λ (x : List Bool). get_or x a false) taken) ∙ on in
+            let was : get_or before.taken a false ≡ true = sym (get_or-set_other before.taken i a true false other) ∙ sym (ap (λ (x : List Bool). get_or x a false) taken) ∙ on in
             λ v m. (span v).1 (in_behind (row_sets before.span) all v (is.taken a j was partner v m))
       ];
     }

@@ -1,5 +1,5 @@
 -- The operands of products, gathered in classes: operands that span the same sets are one class.
-use Rattle.std.specs.Prelude.{◌≡◌, ◌<◌, ◌≤◌, ◌↔◌, ◌⊎◌, ◌+◌, ℕ, not, count_by, Bool, true, false, List, [], length, slice_index_or, All, Contains}
+use Rattle.std.specs.Prelude.{◌≡◌, ◌<◌, ◌≤◌, ◌↔◌, ◌⊎◌, ◌+◌, ◌^◌, ℕ, not, count_by, Bool, true, false, List, [], length, slice_index_or, All, Contains}
 use Rattle.span_model.specs.Columns.{Columns, empty, sets_of}
 use Rattle.span_model.specs.Span.{InSpan, SameSpan}
 use Rattle.span_model.specs.Attack.{Product, IsLeak}
@@ -47,8 +47,9 @@ pub record AreByLead (classes : List Class) (table : List (List ℕ)) : Type 0 w
       → Contains (slice_index_or table c []) i
   pub numbers : (c i : ℕ) → Contains (slice_index_or table c []) i → i < length classes
 
--- what is kept of the classes and their table
+-- what is kept of the classes and their table: the classes are numbered in 32 bits
 pub record IsGathered (gathered : Classes) : Type 0 where
+  pub few : length gathered.list.items < 2 ^ 32
   pub classes : AreClasses gathered.columns gathered.list.items
   pub by_lead : AreByLead gathered.list.items gathered.by_lead.items
 

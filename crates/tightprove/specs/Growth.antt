@@ -66,24 +66,24 @@ IsInPieces candidates span pieces rows =
 pub record IsGrowth (classes : List Class) (candidates : Basis) (growth : Growth) : Type 0 where
   pub columns : growth.span.columns ≡ candidates.columns
   pub joint_columns : growth.joint.columns ≡ candidates.columns
-  pub flags : length growth.taken.items ≡ length classes
+  pub flags : length growth.taken ≡ length classes
   pub candidates_in : Spans (row_sets growth.joint) (row_sets candidates)
   pub span_in : Spans (row_sets growth.joint) (row_sets growth.span)
-  pub taken : (i j : ℕ) → slice_index_or growth.taken.items i false ≡ true → IsPartner classes i j → Spans (row_sets growth.span) (class_rows classes j)
+  pub taken : (i j : ℕ) → slice_index_or growth.taken i false ≡ true → IsPartner classes i j → Spans (row_sets growth.span) (class_rows classes j)
 
 -- class i is taken, or has with the span no candidates in common outside the span
 abbrev pub MeetsNoMore : List Class → Basis → Growth → ℕ → Type 0
 MeetsNoMore classes candidates growth i =
-    (slice_index_or growth.taken.items i false ≡ true) ⊎ MeetsWithin (row_sets candidates) (class_rows classes i) (row_sets growth.span)
+    (slice_index_or growth.taken i false ≡ true) ⊎ MeetsWithin (row_sets candidates) (class_rows classes i) (row_sets growth.span)
 
 -- class i is taken, or does not hold with the span all the candidates
 abbrev pub HoldsNoMore : List Class → Basis → Growth → ℕ → Type 0
 HoldsNoMore classes candidates growth i =
-    (slice_index_or growth.taken.items i false ≡ true) ⊎ HasRowOutside candidates.rows (class_rows classes i ++ row_sets growth.span)
+    (slice_index_or growth.taken i false ≡ true) ⊎ HasRowOutside candidates.rows (class_rows classes i ++ row_sets growth.span)
 
 -- how many classes are not taken
 abbrev pub left_over : Growth → ℕ
-left_over growth = count_by not growth.taken.items
+left_over growth = count_by not growth.taken
 
 -- the pieces: proper parts of the candidates, at most one for each class. Each of the candidates that an operand holds with the span is empty
 -- or in one of the pieces, where the operand is that of a step whose co-operand is not in the span

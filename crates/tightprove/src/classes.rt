@@ -1,4 +1,4 @@
-ghost use Rattle.std.specs.Prelude.{◌≡◌, ◌≢◌, ◌<◌, ◌≤◌, ◌+◌, ◌++◌, ℕ, [], ◌∷◌, List, length, true, false, Some, slice_index_or, IfOk, OnOk, OnErr, IfSome, All, Contains, suc};
+ghost use Rattle.std.specs.Prelude.{◌≡◌, ◌≢◌, ◌<◌, ◌≤◌, ◌+◌, ◌^◌, ◌++◌, ℕ, [], ◌∷◌, List, length, true, false, Some, slice_index_or, IfOk, OnOk, OnErr, IfSome, All, Contains, suc};
 ghost use Rattle.span_model.specs.Columns.{sets_of, set_of};
 ghost use Rattle.span_model.specs.Span.{SameSpan};
 ghost use Rattle.span_model.specs.Attack.{Product, product_at};
@@ -21,6 +21,15 @@ pub(crate) struct Classes {
     pub(crate) list: Vec<Class>,
     // by column: the classes of which a row has it as its greatest column
     pub(crate) by_lead: Vec<List<usize>>,
+}
+
+impl Classes {
+    pub(crate) fn count(&self) -> u32
+        requires { IsGathered self.now }
+        ensures { result ≡ length self.now.list.items }
+    {
+        self.list.len() as u32
+    }
 }
 
 // Grows the span by rows.
@@ -195,6 +204,7 @@ fn place(
     requires wide { (k : ℕ) → k < length rows.now → length (slice_index_or rows.now k []) ≡ columns }
     ensures number { IfOk result (λ i. (i < length list.new.items) × SameSpan (class_rows list.new.items i) (sets_of rows.now)) }
     ensures kept { OnOk result (HasClassesOf list.old.items list.new.items) }
+    ensures few { OnOk result (length list.new.items ≤ length list.old.items + 1) }
     ensures classes { OnOk result (AreClasses columns list.new.items) }
     ensures by_lead { OnOk result (AreByLead list.new.items by_lead.new.items) }
     ensures width { length by_lead.new.items ≡ columns }
@@ -235,6 +245,7 @@ fn add_product(
     requires width { length by_lead.old.items ≡ columns }
     requires left { (k : ℕ) → k < length left.now → length (slice_index_or left.now k []) ≡ columns }
     requires right { (k : ℕ) → k < length right.now → length (slice_index_or right.now k []) ≡ columns }
+    ensures few { OnOk result (length list.new.items ≤ length list.old.items + 2) }
     ensures steps { OnOk result ((n : ℕ) (products : List (Product ℕ)) → product_at products n ≡ record { left = sets_of left.now; right = sets_of right.now } → AreStepsOf n products list.old.items → AreStepsOf (suc n) products list.new.items) }
     ensures classes { OnOk result (AreClasses columns list.new.items) }
     ensures by_lead { OnOk result (AreByLead list.new.items by_lead.new.items) }
@@ -259,6 +270,7 @@ fn add_numbered(
     requires classes { AreClasses (length view.now.columns) list.old.items }
     requires by_lead { AreByLead list.old.items by_lead.old.items }
     requires width { length by_lead.old.items ≡ length view.now.columns }
+    ensures few { OnOk result (length list.new.items ≤ length list.old.items + 2) }
     ensures steps { OnOk result (AreStepsOf k (products_of view.now) list.old.items → AreStepsOf (suc k) (products_of view.now) list.new.items) }
     ensures classes { OnOk result (AreClasses (length view.now.columns) list.new.items) }
     ensures by_lead { OnOk result (AreByLead list.new.items by_lead.new.items) }
@@ -314,20 +326,18 @@ pub(crate) fn classes_of(alloc: Global, view: &View) -> Result<Classes, AllocErr
 }
 
 // Lists the classes of a lane that are not yet listed.
-fn list_lane(
-    lane: &[usize],
-    listed: &mut Vec<bool>,
-    near: &mut Vec<usize>,
-) -> Result<(), AllocError>
-    requires numbers { (i : ℕ) → Contains lane.now i → i < length listed.old.items }
-    requires listed { AreListed (length listed.old.items) listed.old.items near.old.items }
-    ensures listed { OnOk result (AreListed (length listed.old.items) listed.new.items near.new.items) }
-    ensures kept { OnOk result ((i : ℕ) → slice_index_or listed.old.items i false ≡ true → slice_index_or listed.new.items i false ≡ true) }
-    ensures lane { OnOk result ((i : ℕ) → Contains lane.now i → slice_index_or listed.new.items i false ≡ true) }
+fn list_lane(lane: &[usize], listed: &mut BitRow, near: &mut Vec<usize>) -> Result<(), AllocError>
+    requires few { length listed.old < 2 ^ 32 }
+    requires numbers { (i : ℕ) → Contains lane.now i → i < length listed.old }
+    requires listed { AreListed (length listed.old) listed.old near.old.items }
+    ensures listed { OnOk result (AreListed (length listed.old) listed.new near.new.items) }
+    ensures kept { OnOk result ((i : ℕ) → slice_index_or listed.old i false ≡ true → slice_index_or listed.new i false ≡ true) }
+    ensures lane { OnOk result ((i : ℕ) → Contains lane.now i → slice_index_or listed.new i false ≡ true) }
 {
     for i in lane {
-        if !listed[*i] {
-            listed[*i] = true;
+        let number = *i as u32;
+        if !listed.has(number) {
+            listed.flip(number);
             near.push(*i)?;
         }
     }
@@ -343,7 +353,7 @@ pub(crate) fn touching(
     requires { IsGathered classes.now }
     ensures { IfOk result (λ near. AreNear classes.now.list.items (row_sets span.now) near.items) }
 {
-    let mut listed = vec![in alloc; false; classes.list.len()]?;
+    let mut listed = BitRow::new(alloc, classes.count())?;
     let mut near = Vec::new(alloc);
     for lead in &leads_of(alloc, span)? {
         list_lane(lane_at(&classes.by_lead, *lead), &mut listed, &mut near)?;

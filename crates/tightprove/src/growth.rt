@@ -1,4 +1,4 @@
-ghost use Rattle.std.specs.Prelude.{◌≡◌, ◌<◌, ◌≤◌, ◌⊎◌, ◌++◌, ℕ, [], length, true, slice_index_or, slice_set, IfOk, OnOk, MatchBool};
+ghost use Rattle.std.specs.Prelude.{◌≡◌, ◌<◌, ◌≤◌, ◌⊎◌, ◌++◌, ℕ, [], length, true, false, slice_index_or, slice_set, IfOk, OnOk, MatchBool};
 ghost use Rattle.std.specs.Bool.{OnFalse};
 ghost use Rattle.span_model.specs.Columns.{set_of, sets_of};
 ghost use Rattle.span_model.specs.Span.{Spans, SameSpan};
@@ -16,23 +16,24 @@ use std::alloc::{AllocError, Global};
 pub(crate) struct Growth {
     pub(crate) span: Span,
     pub(crate) joint: Span,
-    pub(crate) taken: Vec<bool>,
+    pub(crate) taken: BitRow,
 }
 
 impl Growth {
     fn start(alloc: Global, classes: &Classes, candidates: &Span) -> Result<Growth, AllocError>
-        requires { candidates.now.columns ≡ classes.now.columns }
+        requires classes { IsGathered classes.now }
+        requires columns { candidates.now.columns ≡ classes.now.columns }
         ensures growth { IfOk result (λ growth. IsGrowth classes.now.list.items candidates.now growth) }
         ensures empty { IfOk result (λ growth. growth.span.rows ≡ []) }
     {
         Ok(Growth {
             span: Span::new(alloc, classes.columns)?,
             joint: candidates.copy(alloc)?,
-            taken: vec![in alloc; false; classes.list.len()]?,
+            taken: BitRow::new(alloc, classes.count())?,
         })
     }
 
-    // Takes the partners of class i.
+    // Takes the partners of class i, which is not taken.
     fn take(
         &mut self,
         alloc: Global,
@@ -44,16 +45,17 @@ impl Growth {
         requires classes { IsGathered classes.now }
         requires columns { candidates.now.columns ≡ classes.now.columns }
         requires growth { IsGrowth classes.now.list.items candidates.now self.old }
+        requires free { slice_index_or self.old.taken i false ≡ false }
         ensures growth { OnOk result (IsGrowth classes.now.list.items candidates.now self.new) }
         ensures span { OnOk result (SameSpan (row_sets self.new.span) (row_sets self.old.span ++ rows_of_all classes.now.list.items (class_at classes.now.list.items i).partners)) }
-        ensures taken { OnOk result (self.new.taken.items ≡ slice_set self.old.taken.items i true) }
+        ensures taken { OnOk result (self.new.taken ≡ slice_set self.old.taken i true) }
     {
         for j in classes.list[i].partners.as_slice() {
             let rows = classes.list[*j].rows.as_slice();
             insert_all(alloc, &mut self.span, rows)?;
             insert_all(alloc, &mut self.joint, rows)?;
         }
-        self.taken[i] = true;
+        self.taken.flip(i as u32);
         Ok(())
     }
 }
@@ -166,7 +168,7 @@ fn take_if_meets(
     ensures scratch { length scratch.new ≡ length scratch.old }
     ensures answer { IfOk result (λ took. MatchBool took (left_over growth.new < left_over growth.old) ((growth.new ≡ growth.old) × MeetsNoMore classes.now.list.items candidates.now growth.new i)) }
 {
-    if growth.taken[i] {
+    if growth.taken.has(i as u32) {
         return Ok(false);
     }
     if !meets_outside(
@@ -274,7 +276,7 @@ fn take_if_holds(
     ensures scratch { length scratch.new ≡ length scratch.old }
     ensures answer { IfOk result (λ took. MatchBool took (left_over growth.new < left_over growth.old) ((growth.new ≡ growth.old) × HoldsNoMore classes.now.list.items candidates.now growth.new i)) }
 {
-    if growth.taken[i] {
+    if growth.taken.has(i as u32) {
         return Ok(false);
     }
     if !holds(

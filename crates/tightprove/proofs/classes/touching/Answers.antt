@@ -14,11 +14,11 @@ list_lane-requires-clause-numbers c i h =
 
 pub loop-lead-preserved : goal.loop-lead-preserved
 loop-lead-preserved c =
-    let P : ℕ → Type 0 = λ n. AreListed n c.list_lane.new.listed.items c.list_lane.new.near.items in
-    let Q : List ℕ → Type 0 = λ js. (i : ℕ) → Contains js i → get_or c.list_lane.new.listed.items i false ≡ true in
+    let P : ℕ → Type 0 = λ n. AreListed n c.list_lane.new.listed c.list_lane.new.near.items in
+    let Q : List ℕ → Type 0 = λ js. (i : ℕ) → Contains js i → get_or c.list_lane.new.listed i false ≡ true in
     record {
       listed = subst P c.loop-lead.invariant.listed.flag_count c.in_ok-list_lane.ensures.listed;
-      lanes = lanes_done c.args.classes.now.by_lead.items c.deref-lead-items.result.now c.loop-lead.listed.items c.list_lane.new.listed.items c.loop-lead.lead-index c.loop-lead-test.true
+      lanes = lanes_done c.args.classes.now.by_lead.items c.deref-lead-items.result.now c.loop-lead.listed c.list_lane.new.listed c.loop-lead.lead-index c.loop-lead-test.true
           c.loop-lead.invariant.lanes c.in_ok-list_lane.ensures.kept (subst Q c.lane_at.ensures c.in_ok-list_lane.ensures.lane);
     }
 
@@ -26,6 +26,6 @@ pub returns : goal.returns
 returns c =
     let leads : List ℕ = c.deref-lead-items.result.now in
     let P : List ℕ → Type 0 = λ xs. (k n : ℕ) → k < length c.args.span.now.rows → IsLast (set_of (get_or c.args.span.now.rows k [])) n → Contains xs n in
-    near_ends c.args.classes.now.columns c.args.classes.now.list.items c.args.classes.now.by_lead.items c.args.span.now leads c.loop-lead.listed.items c.loop-lead.near.items c.leads_are_kept.ensures
+    near_ends c.args.classes.now.columns c.args.classes.now.list.items c.args.classes.now.by_lead.items c.args.span.now leads c.loop-lead.listed c.loop-lead.near.items c.leads_are_kept.ensures
     c.requires.classes c.requires.by_lead c.in_ok-leads_of.ensures.own (subst P (sym c.deref-lead-items.ensures.value) c.in_ok-leads_of.ensures.leads)
     (λ n i h lane. c.loop-lead.invariant.lanes n i (taken_whole leads c.loop-lead.lead-index n c.loop-lead-test.false h) lane) c.loop-lead.invariant.listed

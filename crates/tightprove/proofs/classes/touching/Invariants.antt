@@ -5,6 +5,6 @@ use Rattle.tightprove.proofs.classes.touching.Given as goal
 
 abbrev pub invariant-loop-lead : goal.invariant-loop-lead
 invariant-loop-lead l = record {
-  listed : AreListed (length l.classes.list.items) l.listed.items l.near.items;
-  lanes : (c i : ℕ) → Contains (take l.lead-index l.lead-items) c → Contains (get_or l.classes.by_lead.items c []) i → get_or l.listed.items i false ≡ true;
+  listed : AreListed (length l.classes.list.items) l.listed l.near.items;
+  lanes : (c i : ℕ) → Contains (take l.lead-index l.lead-items) c → Contains (get_or l.classes.by_lead.items c []) i → get_or l.listed i false ≡ true;
 }

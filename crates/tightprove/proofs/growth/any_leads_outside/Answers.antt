@@ -13,5 +13,5 @@ loop-row-preserved c = record {
 
 pub returns-clause-answer : goal.returns-clause-answer
 returns-clause-answer c =
-    led_end (row_sets c.args.joint.now) (row_sets c.args.joint.now) (row_sets c.args.span.now) c.args.rows.now c.loop-row.row-index c.leads_are_kept.ensures c.requires.own
-    (λ v m. m) c.requires.span_in c.loop-row-test.false c.loop-row.invariant.within
+    led_end (row_sets c.args.joint.now) (row_sets c.args.span.now) c.args.rows.now c.loop-row.row-index c.leads_are_kept.ensures c.requires.own
+    c.requires.span_in c.loop-row-test.false c.loop-row.invariant.within

@@ -1,8 +1,8 @@
-use Rattle.std.proofs.Common.{◌≡◌, ◌<◌, ℕ, List, Bool, length, get_or, sym, ap, ◌∙◌, arith, set, true, Vec, Global}
+use Rattle.std.proofs.Common.{◌≡◌, ◌<◌, ℕ, List, length, get_or, sym, ap, ◌∙◌, arith}
 use Rattle.span_model.specs.Columns.{sets_of}
 use Rattle.gf2_span.specs.Basis.{row_sets}
 use Rattle.tightprove.specs.Classes.{class_at, class_rows}
-use Rattle.tightprove.proofs.Taking.{wide_at, rows_at, partners_at, partner_lt, all_more, all_end, growth_taken}
+use Rattle.tightprove.proofs.Taking.{wide_at, rows_at, partners_at, partner_lt, all_more, all_end, growth_taken, flag_set}
 use Rattle.tightprove.proofs.growth.Growth.take.Goals as goal
 
 pub index-requires-in-loop-j : goal.index-requires-in-loop-j
@@ -58,7 +58,7 @@ returns-clause-growth c =
     let e : c.as_slice-j-items.result.now ≡ (class_at c.args.classes.now.list.items c.args.i).partners =
     partners_at c.args.classes.now.list.items c.args.i c.index.result.now c.as_slice-j-items.result.now c.requires.i c.index.ensures c.as_slice-j-items.ensures in
     growth_taken c.args.classes.now.list.items c.args.candidates.now c.args.self.now _ c.args.i c.requires.growth c.loop-j.invariant.columns c.loop-j.invariant.joint_columns
-    (ap (λ (v : Vec Bool Global). set v.items c.args.i true) c.loop-j.invariant.taken)
+    (flag_set c.args.self.now.taken c.loop-j.self.taken c.flip.new.self c.args.i c.loop-j.invariant.taken c.requires.free c.flip.ensures)
     (all_end c.args.classes.now.list.items (row_sets c.args.self.now.span) (row_sets c.loop-j.self.span) js (class_at c.args.classes.now.list.items c.args.i).partners c.loop-j.j-index c.loop-j-test.false e c.loop-j.invariant.span)
     (all_end c.args.classes.now.list.items (row_sets c.args.self.now.joint) (row_sets c.loop-j.self.joint) js (class_at c.args.classes.now.list.items c.args.i).partners c.loop-j.j-index c.loop-j-test.false e c.loop-j.invariant.joint)
 
@@ -67,3 +67,9 @@ returns-clause-span c =
     let e : c.as_slice-j-items.result.now ≡ (class_at c.args.classes.now.list.items c.args.i).partners =
     partners_at c.args.classes.now.list.items c.args.i c.index.result.now c.as_slice-j-items.result.now c.requires.i c.index.ensures c.as_slice-j-items.ensures in
     all_end c.args.classes.now.list.items (row_sets c.args.self.now.span) (row_sets c.loop-j.self.span) c.as_slice-j-items.result.now (class_at c.args.classes.now.list.items c.args.i).partners c.loop-j.j-index c.loop-j-test.false e c.loop-j.invariant.span
+
+pub returns-clause-taken : goal.returns-clause-taken
+returns-clause-taken c = flag_set c.args.self.now.taken c.loop-j.self.taken c.flip.new.self c.args.i c.loop-j.invariant.taken c.requires.free c.flip.ensures
+
+pub flip-requires : goal.flip-requires
+flip-requires c = omega (arith, c.requires.i, c.requires.growth.flags, ap length c.loop-j.invariant.taken)

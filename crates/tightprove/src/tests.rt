@@ -1,14 +1,48 @@
+ghost use Rattle.std.specs.Prelude.{All};
+ghost use Rattle.std.specs.Bool.{OnTrue};
+ghost use Rattle.usuba0.specs.Builder.{Holds};
+
 use crate::{Verdict, leaks, search};
 use gf2_span::BitRow;
 use linear_view::{Column, ColumnKind, View, view_of};
 use std::alloc::Global;
 use std::process::Abort;
 use std::test::Fail;
-use usuba0::{Core, CoreBuilder, Turn};
+use usuba0::{Core, CoreBuilder, Reg, Turn};
 
 fn view(rt: &impl Abort, alloc: Global, core: &Core) -> Result<View, Fail> {
     assert!(rt; core.fits());
     Ok(view_of(alloc, core)?)
+}
+
+fn sum(rt: &impl Abort, builder: &mut CoreBuilder, a: Reg, b: Reg) -> Result<Reg, Fail> {
+    assert!(rt; builder.terms() < 99);
+    assert!(rt; a.0 < builder.terms() && b.0 < builder.terms());
+    Ok(builder.xor(a, b)?)
+}
+
+fn product(rt: &impl Abort, builder: &mut CoreBuilder, a: Reg, b: Reg) -> Result<Reg, Fail> {
+    assert!(rt; builder.terms() < 99);
+    assert!(rt; a.0 < builder.terms() && b.0 < builder.terms());
+    Ok(builder.and(a, b)?)
+}
+
+fn view_of_outputs(
+    rt: &impl Abort,
+    alloc: Global,
+    builder: CoreBuilder,
+    outputs: &[Reg],
+) -> Result<View, Fail> {
+    assert!(rt; !outputs.is_empty() && outputs.len() < 99);
+    assert!(rt; are_held(&builder, outputs));
+    let core = builder.finish(alloc, outputs)?;
+    view(rt, alloc, &core)
+}
+
+fn are_held(builder: &CoreBuilder, registers: &[Reg]) -> bool
+    ensures { OnTrue result (All (Holds builder.now) registers.now) }
+{
+    registers.iter().all(|r| r.0 < builder.terms())
 }
 
 // Whether the set of one bit of an input is a leak.
@@ -26,6 +60,16 @@ fn input_leaks(
         .expect(rt, "a column");
     assert!(rt; c < row.columns());
     row.flip(c);
+    Ok(leaks(alloc, view, &row)?)
+}
+
+fn is_leak(rt: &impl Abort, alloc: Global, view: &View, columns: &[u32]) -> Result<bool, Fail> {
+    let mut row = BitRow::new(alloc, view.columns())?;
+    for c in columns {
+        assert!(rt; *c < row.columns());
+        row.flip(*c);
+    }
+    assert!(rt; row.columns() == view.columns());
     Ok(leaks(alloc, view, &row)?)
 }
 
@@ -143,5 +187,54 @@ fn only_the_bit_that_both_products_hold_leaks(rt: HostRuntime) -> Result<(), Fai
     both.flip(0);
     both.flip(1);
     assert!(rt; !leaks(alloc, &view, &both)?);
+    Ok(())
+}
+
+// x & a, (x ^ a) & b, (x ^ b) & c, (x ^ c) & d, (x ^ d) & e, (x ^ e) & x
+#[test]
+fn a_chain_of_products_leaks(rt: HostRuntime) -> Result<(), Fail> {
+    let alloc = rt.alloc();
+    let mut builder = CoreBuilder::new(alloc, 1, 6)?;
+    let x = builder.input(0);
+    let mut outputs = Vec::new(alloc);
+    outputs.push(product(&rt, &mut builder, x, Reg(1))?)?;
+    for (added, factor) in [(1, 2), (2, 3), (3, 4), (4, 5), (5, 0)] {
+        let left = sum(&rt, &mut builder, x, Reg(added))?;
+        outputs.push(product(&rt, &mut builder, left, Reg(factor))?)?;
+    }
+    let view = view_of_outputs(&rt, alloc, builder, &outputs)?;
+    expect_only_input_0(&rt, alloc, &view)?;
+    assert!(rt; !input_leaks(&rt, alloc, &view, 1, 0)?);
+    Ok(())
+}
+
+// The operands of x & y and ((x & 1) ^ (u & 2)) & (((x ^ y) & 1) ^ (v & 2)) over 2 bits
+fn products_of_parts(rt: &impl Abort, alloc: Global) -> Result<View, Fail> {
+    let mut builder = CoreBuilder::new(alloc, 2, 4)?;
+    let one = builder.constant(1)?;
+    let two = builder.constant(2)?;
+    let (x, y, u, v) = (Reg(0), Reg(1), Reg(2), Reg(3));
+    let first = product(rt, &mut builder, x, y)?;
+    let low = product(rt, &mut builder, x, one)?;
+    let high = product(rt, &mut builder, u, two)?;
+    let left = sum(rt, &mut builder, low, high)?;
+    let both = sum(rt, &mut builder, x, y)?;
+    let low = product(rt, &mut builder, both, one)?;
+    let high = product(rt, &mut builder, v, two)?;
+    let right = sum(rt, &mut builder, low, high)?;
+    let second = product(rt, &mut builder, left, right)?;
+    view_of_outputs(rt, alloc, builder, &[first, second])
+}
+
+// Bit 0 of x leaks, and of no operand the sum of both rows does.
+#[test]
+fn a_part_of_an_operand_leaks(rt: HostRuntime) -> Result<(), Fail> {
+    let alloc = rt.alloc();
+    let view = products_of_parts(&rt, alloc)?;
+    expect_only_input_0(&rt, alloc, &view)?;
+    let sums: [&[u32]; 4] = [&[0, 1], &[2, 3], &[0, 5], &[0, 2, 7]];
+    for columns in sums {
+        assert!(rt; !is_leak(&rt, alloc, &view, columns)?);
+    }
     Ok(())
 }

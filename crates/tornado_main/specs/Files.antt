@@ -10,6 +10,6 @@ pub record IsFetched (contents : Contents) (name bytes : List ℕ) : Type 0 wher
   pub within : length bytes ≤ 1048576
   pub told : IfSome contents (λ file. file name ≡ Some bytes)
 
--- bytes of which this holds were fetched of this name
+-- a fetch of this name may answer bytes of which this holds
 abbrev pub FileIs : Contents → List ℕ → (List ℕ → Type 0) → Type 0
 FileIs contents name P = (bytes : List ℕ) × IsFetched contents name bytes × P bytes

@@ -310,6 +310,13 @@ holds_within core set holds column absent = by (set column) refl
         (slice_get-get_or (core_columns core) there.0 column there.1 ∙ ap (λ (x : Column). Some x) there.2) (same_column-itself column))
         ∙ absent))
 
+-- a set of columns of the core is the leak again that its bits are
+to_names_again : (core : Circuit) (t : ℕ) (set : Columns Column) (probes : List Probe) → HoldsCoreColumns core set
+    → IsAttack (view.products_of (core_view core)) t (numbered core set) probes → IsAttack (core_products core) t set probes
+to_names_again core t set probes holds attack =
+    subst (λ (l : Columns Column). IsAttack (core_products core) t l probes) (by_name (core_columns core) set (holds_within core set holds))
+    (to_names core t (numbered core set) probes attack)
+
 pub attacks_are_the_views : AttacksAreTheViews
 attacks_are_the_views =
     record {
@@ -321,11 +328,7 @@ attacks_are_the_views =
       leak =
           λ core is set holds. (
             λ leak. (leak.0, leak.1, to_numbers core leak.0 set leak.1 leak.2),
-            λ leak. (
-              leak.0,
-              leak.1,
-              subst (λ (l : Columns Column). IsAttack (core_products core) leak.0 l leak.1) (by_name (core_columns core) set (holds_within core set holds))
-                  (to_names core leak.0 (numbered core set) leak.1 leak.2),
-            ),
+            λ leak. (leak.0, leak.1, to_names_again core leak.0 set leak.1 holds leak.2),
           );
+      probes = λ core is set holds t probes. (to_numbers core t set probes, to_names_again core t set probes holds);
     }

@@ -1,5 +1,5 @@
 -- What is written of an attack is read as the same attack.
-use Rattle.std.proofs.Common.{◌≡◌, ℕ, zero, suc, ◌+◌, ◌*◌, ◌^◌, ◌<◌, ◌≤◌, ◌⊎◌, Bool, true, false, cond, ltb, leb, eqb, not, ◌&&◌, List, [], ◌∷◌, ◌++◌, length, map, Option, None, Some, is_some, Result, Ok, Err, refl, sym, ap, ◌∙◌, subst, inl, inr, arith, append_assoc, append-nil, length-append, slice_get, codes, decimal, flat_map}
+use Rattle.std.proofs.Common.{◌≡◌, ℕ, zero, suc, ◌+◌, ◌*◌, ◌^◌, ◌<◌, ◌≤◌, ◌⊎◌, Bool, true, false, cond, ltb, leb, eqb, not, ◌&&◌, List, [], ◌∷◌, ◌++◌, length, map, All, Option, None, Some, is_some, Result, Ok, Err, refl, sym, ap, ◌∙◌, subst, inl, inr, arith, append_assoc, append-nil, length-append, slice_get, codes, decimal, flat_map}
 use Rattle.std.specs.Char.{is_ascii_digit}
 use Rattle.std.specs.List.{slice_split, list_all}
 use Rattle.std.specs.Option.{option_map}
@@ -7,13 +7,13 @@ use Rattle.std.specs.Str.{bytes_eq}
 use Rattle.std.proofs.lemmas.Bool.{true≢false, false≢true, cases_Bool, and_parts, and_from, cond-true, cond-false, ltb-true, leb-true, lt-ltb, le-ltb, eq-eqb, ne_eqb, eqb-true, not_from_false}
 use Rattle.std.proofs.lemmas.Slice.Eq.{bytes_eq-Decides}
 use Rattle.linear_view.specs.RowsText.{kind_text, column_text}
-use Rattle.linear_view.specs.View.{LinearView, IsView}
+use Rattle.linear_view.specs.View.{LinearView, IsSmallName, IsView}
 use Rattle.linear_view.specs.declared.column.Column.{Column}
 use Rattle.linear_view.specs.declared.column.ColumnKind.{ColumnKind}
 use Rattle.linear_view.specs.declared.column.ColumnKind.TheVariants.{Input, Product, Refresh}
 use Rattle.attack_text.specs.AttackText.{leak_words, side_word, core_words, step_words, steps_text, steps_count_text, counted_steps_text, root_text, probe_words, probes_text, probes_count_text, listing_text, leak_text, head_text, body_text, attack_text}
 use Rattle.attack_text.specs.Forms.{Counts, core_form, column_of_parts, column_of, side_of, leak_form, steps_form, step_form, root_form, listing_form, probe_form}
-use Rattle.attack_text.specs.Ranges.{is_column, leak_of, are_uses, is_steps_count, is_step, is_probe, are_steps, is_listed, are_small, most_probes, InRange}
+use Rattle.attack_text.specs.Ranges.{is_column, leak_of, are_uses, is_steps_count, is_step, is_probe, are_steps, is_listed, most_probes, InRange}
 use Rattle.attack_text.specs.Reading.{SoFar, nothing, second, opened, with_leak, with_steps, with_root, with_probes, with_large, said_in_range, counts_of_view, leak_in_order, leak_at, with_listing, added, unless_fault, at_end, attack_from, after_line, is_listing, attack_of}
 use Rattle.attack_text.specs.declared.attack.Attack.{Attack}
 use Rattle.attack_text.specs.declared.attack.Derivation.{Derivation}
@@ -126,11 +126,13 @@ columns_are a b h =
     ∙ ap (λ (n : ℕ). made b.kind n a.bit) (eqb-true a.number b.number v.1)
     ∙ ap (λ (m : ℕ). made b.kind b.number m) (eqb-true a.bit b.bit w.1)
 
-small_parts : (column : Column) (columns : List Column) → are_small (column ∷ columns) ≡ true → (column.number < 2 ^ 32) × (column.bit < 2 ^ 32) × (are_small columns ≡ true)
-small_parts column columns h =
-    let w = and_parts (ltb column.number (2 ^ 32) && ltb column.bit (2 ^ 32)) (are_small columns) h in
-    let v = and_parts (ltb column.number (2 ^ 32)) (ltb column.bit (2 ^ 32)) w.0 in
-    (ltb-true column.number (2 ^ 32) v.0, ltb-true column.bit (2 ^ 32) v.1, w.1)
+abbrev AreSmall : List Column → Type 0
+AreSmall columns = All IsSmallName columns
+
+small_parts : (column : Column) (columns : List Column) → AreSmall (column ∷ columns) → (column.number < 2 ^ 32) × (column.bit < 2 ^ 32) × AreSmall columns
+small_parts column columns small =
+    let first : IsSmallName column = small 0 column (omega arith) in
+    (first.0, first.1, λ k d within. small (suc k) d (omega arith))
 
 abbrev Differ : List Column → Type 0
 Differ columns = (b c : ℕ) (name : Column) → slice_get columns b ≡ Some name → slice_get columns c ≡ Some name → b ≡ c
@@ -155,7 +157,7 @@ heads_are : (a b : List ℕ) (xs ys : List (List ℕ)) → a ∷ xs ≡ b ∷ ys
 heads_are a b xs ys e = cc
 
 first_other : (columns : List Column) (leak : List Bool) (column : Column) → ((j : ℕ) (other : Column) → slice_get columns j ≡ Some other → is_column (Some other) column ≡ false)
-    → are_small columns ≡ true → (word : List ℕ) (more : List (List ℕ)) → leak_words columns leak ≡ word ∷ more → is_column (column_of word) column ≡ false
+    → AreSmall columns → (word : List ℕ) (more : List (List ℕ)) → leak_words columns leak ≡ word ∷ more → is_column (column_of word) column ≡ false
 first_other [] leak column others small word more e = absurd (none_first word more e)
 first_other (next ∷ columns) [] column others small word more e = absurd (none_first word more e)
 first_other (next ∷ columns) (true ∷ leak) column others small word more e =
@@ -165,7 +167,7 @@ first_other (next ∷ columns) (true ∷ leak) column others small word more e =
 first_other (next ∷ columns) (false ∷ leak) column others small word more e =
     first_other columns leak column (λ j other f. others (suc j) other f) (small_parts next columns small).2 word more e
 
-leak_back : (columns : List Column) (leak : List Bool) → Differ columns → are_small columns ≡ true → length leak ≡ length columns → leak_of columns (leak_words columns leak) ≡ Some leak
+leak_back : (columns : List Column) (leak : List Bool) → Differ columns → AreSmall columns → length leak ≡ length columns → leak_of columns (leak_words columns leak) ≡ Some leak
 leak_back [] [] differ small size = refl
 leak_back [] (bit ∷ leak) differ small size = absurd (omega arith)
 leak_back (column ∷ columns) [] differ small size = absurd (omega arith)
@@ -181,7 +183,7 @@ leak_back (column ∷ columns) (false ∷ leak) differ small size =
     skip_first column columns (leak_words columns leak) (first_other columns leak column (first_differs column columns differ) w.2)
     ∙ ap (option_map (λ bits. false ∷ bits)) (leak_back columns leak (later_differ column columns differ) w.2 (omega arith))
 
-leak_columns : (columns : List Column) (leak : List Bool) → are_small columns ≡ true → list_all (λ word. is_some (column_of word)) (leak_words columns leak) ≡ true
+leak_columns : (columns : List Column) (leak : List Bool) → AreSmall columns → list_all (λ word. is_some (column_of word)) (leak_words columns leak) ≡ true
 leak_columns [] leak small = refl
 leak_columns (column ∷ columns) [] small = refl
 leak_columns (column ∷ columns) (true ∷ leak) small =
@@ -189,7 +191,7 @@ leak_columns (column ∷ columns) (true ∷ leak) small =
     and_from (is_some (column_of (column_text column))) (list_all (λ word. is_some (column_of word)) (leak_words columns leak)) (ap is_some (column_back column w.0 w.1)) (leak_columns columns leak w.2)
 leak_columns (column ∷ columns) (false ∷ leak) small = leak_columns columns leak (small_parts column columns small).2
 
-leak_plain : (columns : List Column) (leak : List Bool) → are_small columns ≡ true → are_plain_words (leak_words columns leak) ≡ true
+leak_plain : (columns : List Column) (leak : List Bool) → AreSmall columns → are_plain_words (leak_words columns leak) ≡ true
 leak_plain [] leak small = refl
 leak_plain (column ∷ columns) [] small = refl
 leak_plain (column ∷ columns) (true ∷ leak) small =
@@ -346,7 +348,7 @@ head_back view rest hc hp =
     ∙ line_back view second opened 2 (codes "core") (codes "columns" ∷ decimal c ∷ codes "products" ∷ decimal p ∷ []) rest (core_plain c p (omega arith) (omega arith)) (core_back view 2 hc hp)
 
 -- the leak
-leak_line_back : (view : LinearView) (k : ℕ) (leak : List Bool) → Differ view.columns → are_small view.columns ≡ true → length leak ≡ length view.columns
+leak_line_back : (view : LinearView) (k : ℕ) (leak : List Bool) → Differ view.columns → AreSmall view.columns → length leak ≡ length view.columns
     → after_line view opened k (codes "leak" ∷ leak_words view.columns leak) ≡ Ok (with_leak leak)
 leak_line_back view k leak differ small size =
     let words : List (List ℕ) = leak_words view.columns leak in
@@ -404,8 +406,8 @@ listing_back view derivation Large k few listed =
     ∙ line_back view (with_root derivation) (with_large derivation) k (codes "probes") (codes "large" ∷ []) [] refl refl
 
 -- the whole text
-pub text_back : (view : LinearView) (attack : Attack) → IsView view → are_small view.columns ≡ true → InRange view attack → attack_of view (attack_text view attack) ≡ Ok attack
-text_back view attack is_view small in_range =
+pub text_back : (view : LinearView) (attack : Attack) → IsView view → InRange view attack → attack_of view (attack_text view attack) ≡ Ok attack
+text_back view attack is_view in_range =
     let leak : List Bool = attack.derivation.leak in
     let steps : List Step = attack.derivation.steps in
     let root : List ℕ = attack.derivation.root in
@@ -419,8 +421,8 @@ text_back view attack is_view small in_range =
     let head : attack_of view (attack_text view attack) ≡ attack_from view opened 3 (lines_of (leak_text view.columns leak ++ after_leak)) =
     head_back view (leak_text view.columns leak ++ after_leak) (omega arith) (omega arith) in
     let leaked : attack_from view opened 3 (lines_of (leak_text view.columns leak ++ after_leak)) ≡ attack_from view (with_leak leak) 4 (lines_of after_leak) =
-    line_back view opened (with_leak leak) 3 (codes "leak") (leak_words view.columns leak) after_leak (leak_plain view.columns leak small)
-    (leak_line_back view 3 leak is_view.names_differ small in_range.leak) in
+    line_back view opened (with_leak leak) 3 (codes "leak") (leak_words view.columns leak) after_leak (leak_plain view.columns leak is_view.small_names)
+    (leak_line_back view 3 leak is_view.names_differ is_view.small_names in_range.leak) in
     let counted_plain : are_plain_words (codes "steps" ∷ decimal n ∷ []) ≡ true = rw (is_plain_decimal n (omega arith)) refl in
     let counted : attack_from view (with_leak leak) 4 (lines_of after_leak) ≡ attack_from view (with_steps leak n []) 5 (lines_of (steps_text 0 steps ++ end)) =
     ap (λ (x : List ℕ). attack_from view (with_leak leak) 4 (lines_of x)) (append_assoc (steps_count_text n) (steps_text 0 steps) end)

@@ -1,5 +1,5 @@
 -- What a line of an attack text may hold, and what an attack holds that such a text spells.
-use Rattle.std.specs.Prelude.{◌≡◌, ℕ, suc, ◌*◌, ◌^◌, ◌<◌, ◌≤◌, ◌==◌, Bool, true, false, ◌&&◌, nat_lt, nat_le, if◌then◌else◌, List, [], ◌∷◌, length, Option, None, Some}
+use Rattle.std.specs.Prelude.{◌≡◌, ℕ, suc, ◌*◌, ◌<◌, ◌≤◌, ◌==◌, Bool, true, false, ◌&&◌, nat_lt, nat_le, if◌then◌else◌, List, [], ◌∷◌, length, Option, None, Some}
 use Rattle.std.specs.List.{list_all}
 use Rattle.std.specs.Option.{option_map}
 use Rattle.std.specs.Str.{bytes_eq}
@@ -23,10 +23,6 @@ abbrev pub is_column : Option Column → Column → Bool
 is_column None column = false
 is_column (Some named) column =
     bytes_eq (kind_text named.kind) (kind_text column.kind) && named.number == column.number && named.bit == column.bit
-
--- the numbers and bits of the columns fit 32 bits, as those of every view do
-abbrev pub are_small : List Column → Bool
-are_small columns = list_all (λ column. nat_lt column.number (2 ^ 32) && nat_lt column.bit (2 ^ 32)) columns
 
 -- Which of the columns leak, where the words name some of them in their order, each at most once. None where a word names a column
 -- that is not among the columns, or does not stand after the one before it.

@@ -2,7 +2,7 @@ ghost use Rattle.std.specs.Prelude.{◌≡◌, ◌+◌, ◌<◌, ◌≤◌, ◌^
 ghost use Rattle.linear_view.specs.View.{LinearView, IsView};
 ghost use Rattle.attack_text.specs.AttackText.{attack_text};
 ghost use Rattle.attack_text.specs.Parts.{rest_of, with_every_probe, Reads};
-ghost use Rattle.attack_text.specs.Ranges.{InRange, are_small};
+ghost use Rattle.attack_text.specs.Ranges.{InRange};
 ghost use Rattle.attack_text.specs.Reading as reading;
 ghost use Rattle.attack_text.specs.declared.attack.Attack.{Attack};
 ghost use Rattle.attack_text.specs.declared.attack.Derivation.{Derivation};
@@ -153,6 +153,6 @@ fn read_probes(
 
 /// What `write_attack` writes of an attack that is in range is read as the same attack.
 pub fn written_is_read()
-    ensures { (view : LinearView) (attack : Attack) → IsView view → are_small view.columns ≡ true → InRange view attack
+    ensures { (view : LinearView) (attack : Attack) → IsView view → InRange view attack
         → reading.attack_of view (attack_text view attack) ≡ Ok attack }
 {}

@@ -1,5 +1,5 @@
 -- What holds of the view of a circuit within the limits.
-use Rattle.std.proofs.Common.{◌≡◌, ℕ, zero, suc, ◌+◌, ◌-◌, ◌*◌, ◌<◌, ◌≤◌, Bool, List, [], ◌∷◌, ◌++◌, length, map, flat_map, take, get_or, All, Option, refl, sym, ap, ◌∙◌, subst, arith}
+use Rattle.std.proofs.Common.{◌≡◌, ℕ, zero, suc, ◌+◌, ◌-◌, ◌*◌, ◌^◌, ◌<◌, ◌≤◌, Bool, List, [], ◌∷◌, ◌++◌, length, map, flat_map, take, get_or, All, Option, refl, sym, ap, ◌∙◌, subst, arith}
 use Rattle.std.specs.List.{slice_get, AllByRecursion, range_with_len}
 use Rattle.std.specs.Option.{option_to_list}
 use Rattle.std.proofs.lemmas.List.{length_push, length-append, length-map, get_or-map, map-append, take_all, take_more, flat_map_more}
@@ -16,7 +16,7 @@ use Rattle.linear_view.specs.declared.column.ColumnKind.{ColumnKind}
 use Rattle.linear_view.specs.declared.column.ColumnKind.TheVariants as column
 use Rattle.linear_view.specs.Names.{own_columns, input_columns, gate_columns, equation_columns, core_columns}
 use Rattle.linear_view.specs.Rows.{Rows, RegisterRows, rows_at, rows_over, operands_over, gate_rows, gate_row, input_rows, rows_after, core_rows, gate_product, core_products, core_view}
-use Rattle.linear_view.specs.View.{Operands, LinearView, AreOperands, IsView}
+use Rattle.linear_view.specs.View.{Operands, LinearView, AreOperands, IsSmallName, IsView}
 use Rattle.linear_view.specs.Walk.{AreOnce}
 use Rattle.linear_view.proofs.ColumnLemmas.{products_of-cons, refreshes_of-cons}
 use Rattle.linear_view.proofs.CoreLemmas.{all_rows, input_registers, length-all_rows}
@@ -93,6 +93,10 @@ each_map : {X Y : Type 0} (P : Y → Type 0) (f : X → Y) (xs : List X) → ((x
 each_map P f [] h = tt
 each_map P f (x ∷ xs) h = (h x, each_map P f xs h)
 
+each_range : {X : Type 0} (P : X → Type 0) (f : ℕ → X) (a n : ℕ) → ((k : ℕ) → k < a + n → P (f k)) → AllByRecursion P (map f (range_with_len a n))
+each_range P f a zero h = tt
+each_range P f a (suc n) h = (h a (omega arith), each_range P f (a + 1) n (λ k below. h k (omega arith)))
+
 abbrev HasWidth : ℕ → Rows → Type 0
 HasWidth w rows = length rows ≡ w
 
@@ -154,6 +158,44 @@ products_many names all (gate.Shr k a ∷ gs) = products_many names all gs
 products_many names all (gate.Rotl k a ∷ gs) = products_many names all gs
 products_many names all (gate.Refresh a ∷ gs) = products_many names all gs
 
+-- ---- the names
+
+small_own : (w : ℕ) (kind : ColumnKind) (number : ℕ) → w ≤ 64 → number < 2 ^ 32 → AllByRecursion IsSmallName (own_columns w kind number)
+small_own w kind number wide h = each_range IsSmallName (λ bit. record { kind = kind; number = number; bit = bit }) 0 w (λ bit below. (h, omega arith))
+
+small_inputs : (w a n : ℕ) → w ≤ 64 → a + n ≤ 2 ^ 32 → AllByRecursion IsSmallName (flat_map (own_columns w column.Input) (range_with_len a n))
+small_inputs w a zero wide h = tt
+small_inputs w a (suc n) wide h =
+    each_append IsSmallName (own_columns w column.Input a) (flat_map (own_columns w column.Input) (range_with_len (a + 1) n))
+    (small_own w column.Input a wide (omega arith)) (small_inputs w (a + 1) n wide (omega arith))
+
+small_gate : (w p f : ℕ) (g : Gate) → w ≤ 64 → p + products_of (g ∷ []) ≤ 2 ^ 32 → f + refreshes_of (g ∷ []) ≤ 2 ^ 32 → AllByRecursion IsSmallName (gate_columns w p f g)
+small_gate w p f (gate.Const c) wide hp hf = tt
+small_gate w p f (gate.Xor a b) wide hp hf = tt
+small_gate w p f (gate.Not a) wide hp hf = tt
+small_gate w p f (gate.Mask c a) wide hp hf = tt
+small_gate w p f (gate.And a b) wide hp hf = small_own w column.Product p wide (omega arith)
+small_gate w p f (gate.Shl k a) wide hp hf = tt
+small_gate w p f (gate.Shr k a) wide hp hf = tt
+small_gate w p f (gate.Rotl k a) wide hp hf = tt
+small_gate w p f (gate.Refresh a) wide hp hf = small_own w column.Refresh f wide (omega arith)
+
+small_equations : (w p f : ℕ) (gs : List Gate) → w ≤ 64 → p + products_of gs ≤ 2 ^ 32 → f + refreshes_of gs ≤ 2 ^ 32 → AllByRecursion IsSmallName (equation_columns w p f gs)
+small_equations w p f [] wide hp hf = tt
+small_equations w p f (g ∷ gs) wide hp hf =
+    let p1 : ℕ = p + products_of (g ∷ []) in
+    let f1 : ℕ = f + refreshes_of (g ∷ []) in
+    each_append IsSmallName (gate_columns w p f g) (equation_columns w p1 f1 gs)
+    (small_gate w p f g wide (omega (arith, products_of-cons g gs, hp)) (omega (arith, refreshes_of-cons g gs, hf)))
+    (small_equations w p1 f1 gs wide (omega (arith, products_of-cons g gs, hp)) (omega (arith, refreshes_of-cons g gs, hf)))
+
+small_core : (core : Circuit) → core.width ≤ 64 → core.inputs + products_of core.equations + refreshes_of core.equations ≤ 32768 → All IsSmallName (core_columns core)
+small_core core wide few =
+    let w = core.width in
+    all_from_each IsSmallName (core_columns core)
+    (each_append IsSmallName (input_columns w core.inputs) (equation_columns w 0 0 core.equations)
+    (small_inputs w 0 core.inputs wide (omega arith)) (small_equations w 0 0 core.equations wide (omega arith) (omega arith)))
+
 -- the view of a circuit within the limits is one
 pub core_view_is : (core : Circuit) → IsCore core
     → (core.inputs + products_of core.equations + refreshes_of core.equations) * core.width ≤ 32768
@@ -168,6 +210,7 @@ core_view_is core is few once =
       some_column = omega (arith, length-core_columns core, least, is.some_input);
       columns_fit = omega (arith, length-core_columns core, few);
       products_fit = omega (arith, products_many names all core.equations, least, few);
+      small_names = small_core core is.width_fits (omega (arith, least, few));
       names_differ = once;
       operands =
           all_from_each (AreOperands (length names)) (core_view core).products

@@ -44,6 +44,7 @@ with_is like columns left right products is ec few are ep =
       some_column = is.some_column;
       columns_fit = is.columns_fit;
       products_fit = omega (arith, length-operands_of left right, few);
+      small_names = is.small_names;
       names_differ = is.names_differ;
       operands = are;
     }))

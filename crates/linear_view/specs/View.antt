@@ -1,5 +1,5 @@
 -- What is seen of a view: the columns by their names, and the rows of each product's operands.
-use Rattle.std.specs.Prelude.{◌≡◌, ◌<◌, ◌≤◌, ℕ, Bool, List, [], ◌∷◌, length, map, slice_get, Some, All}
+use Rattle.std.specs.Prelude.{◌≡◌, ◌<◌, ◌≤◌, ◌^◌, ℕ, Bool, List, [], ◌∷◌, length, map, slice_get, Some, All}
 use Rattle.span_model.specs.Columns.{sets_of}
 use Rattle.span_model.specs.Attack.{Product}
 use Rattle.linear_view.specs.declared.column.Column.{Column}
@@ -40,10 +40,15 @@ pub record AreOperands (columns : ℕ) (operands : Operands) : Type 0 where
   pub left_columns : All (λ row. length row ≡ columns) operands.left
   pub right_columns : All (λ row. length row ≡ columns) operands.right
 
--- what holds of every view: 1 to 32,768 columns with different names, at most 32,768 products
+-- the number and the bit of a column's name fit 32 bits
+abbrev pub IsSmallName : Column → Type 0
+IsSmallName name = (name.number < 2 ^ 32) × (name.bit < 2 ^ 32)
+
+-- what holds of every view: 1 to 32,768 columns with small and different names, at most 32,768 products
 pub record IsView (view : LinearView) : Type 0 where
   pub some_column : 0 < length view.columns
   pub columns_fit : length view.columns ≤ 32768
   pub products_fit : length view.products ≤ 32768
+  pub small_names : All IsSmallName view.columns
   pub names_differ : (b c : ℕ) (name : Column) → slice_get view.columns b ≡ Some name → slice_get view.columns c ≡ Some name → b ≡ c
   pub operands : All (AreOperands (length view.columns)) view.products

@@ -1,5 +1,5 @@
 -- What follows from a derivation.
-use Rattle.std.proofs.Common.{◌≡◌, ◌<◌, ◌≤◌, ℕ, suc, List, [], ◌∷◌, ◌++◌, length, map, get_or, refl, sym, ap, ◌∙◌, subst, arith, All}
+use Rattle.std.proofs.Common.{◌≡◌, ◌<◌, ◌≤◌, ◌*◌, ℕ, suc, List, [], ◌∷◌, ◌++◌, length, map, get_or, refl, sym, ap, ◌∙◌, subst, arith, All}
 use Rattle.std.specs.Prelude.{slice_index}
 use Rattle.std.proofs.lemmas.List.{length-map, length-take, get_or-map, get_or-take, get_or_default}
 use Rattle.span_model.specs.Columns.{Columns}
@@ -17,7 +17,8 @@ use Rattle.attack_cert.specs.Levels.{listed}
 use Rattle.attack_cert.specs.Derivation.{listed_at, lower_steps, places_of, IsDerivation}
 use Rattle.attack_cert.specs.DerivationLaws.{DerivationsHold}
 use Rattle.attack_cert.specs.Taken.{lower_counts}
-use Rattle.attack_cert.proofs.Picks.{IsRising, rising_from, rising_back, rising_increases, numbers_rise, numbered_rows, picked_rows}
+use Rattle.attack_cert.proofs.Counting.{levels_few}
+use Rattle.attack_cert.proofs.Picks.{IsRising, rising_from, rising_back, rising_increases, rising_short, numbers_rise, numbered_rows, picked_rows}
 use Rattle.attack_cert.proofs.Supporting.{count_bound, lower_first, level_spans}
 use Rattle.attack_cert.proofs.Selecting.{least_within}
 use Rattle.attack_cert.proofs.Sameness.{one_derivation}
@@ -94,6 +95,13 @@ module _ {C : Type 0} (products : List (Product C)) (leak : Columns C) where
         let count = length-map (listed (d.last ∷ d.lower)) (co_operand products) in
         least_within [] (map (co_operand products) (listed (d.last ∷ d.lower))) leak (places_of d.places root) (length (listed (d.last ∷ d.lower))) d.root_uses (omega arith)
 
+    pub derived_few : length steps ≤ 2 * length products
+    derived_few =
+        let many = many_steps in
+        let short = rising_short d.places (length (listed (d.last ∷ d.lower))) (rising_from d.places d.rise) d.below in
+        let few = levels_few products leak (d.last ∷ d.lower) d.levels in
+        omega arith
+
     pub derived_within : All (λ step. step.product < length products) steps
     derived_within k e h =
         let blank : Step = record { product = 0; side = Left; uses = [] } in
@@ -168,6 +176,7 @@ module _ {C : Type 0} (products : List (Product C)) (leak : Columns C) where
 pub derivations_hold : {C : Type 0} → LeastSelections C → UnfoldingIsAttack C → DerivationsHold C
 derivations_hold least law = record {
   one = λ products leak steps others root other_root. one_derivation products leak least steps others root other_root;
+  few = derived_few;
   within = derived_within;
   in_order = derived_in_order;
   sound = derived_sound;

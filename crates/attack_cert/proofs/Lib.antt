@@ -1,5 +1,6 @@
 -- The theory behind derivations.
 pub mod Those
+pub mod Counting
 pub mod Levelling
 pub mod Supporting
 pub mod Picks
@@ -12,3 +13,4 @@ pub mod Deriving
 pub mod Sameness
 pub mod Existing
 pub mod Consequences
+pub mod Attacks

@@ -1,6 +1,7 @@
-ghost use Rattle.attack_cert.specs.DerivationLaws.{DerivationsHold};
+ghost use Rattle.attack_cert.specs.DerivationLaws.{DerivationsHold, DerivedAttacksHold};
 
 use attack_probes::unfolding_is_attack;
+use attack_text::written_is_read;
 use span_select::least_selections;
 
 /// A leak of an attack has one derivation, which is sound and in order.
@@ -9,4 +10,12 @@ pub fn derivations_hold<C>()
 {
     least_selections::<C>();
     unfolding_is_attack::<C>();
+}
+
+/// The attack of a derivation and a listing of its unfolding holds, and is read as it is written.
+pub fn derived_attacks_hold()
+    ensures { DerivedAttacksHold }
+{
+    unfolding_is_attack::<u32>();
+    written_is_read();
 }

@@ -15,5 +15,5 @@ pub use attack_text::{
     Attack, CertFault, Derivation, Listing, Probe, Side, Step, read_attack, write_attack,
     written_is_read,
 };
-pub use laws::derivations_hold;
+pub use laws::{derivations_hold, derived_attacks_hold};
 pub use leak::derive;

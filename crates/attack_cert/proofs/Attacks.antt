@@ -7,7 +7,7 @@ use Rattle.span_model.specs.Columns.{Columns, set_of}
 use Rattle.span_model.specs.Attack.{Product, Probe, IsProbe, IsAttack}
 use Rattle.linear_view.specs.View.{LinearView, IsView, products_of, product_of}
 use Rattle.attack_text.specs.AttackText.{attack_text}
-use Rattle.attack_text.specs.Ranges.{are_uses, is_step, is_probe, are_steps, is_listed, most_probes, InRange, are_small}
+use Rattle.attack_text.specs.Ranges.{are_uses, is_step, is_probe, are_steps, is_listed, most_probes, InRange}
 use Rattle.attack_text.specs.Reading.{attack_of}
 use Rattle.attack_text.specs.declared.attack.Attack.{Attack}
 use Rattle.attack_text.specs.declared.attack.Derivation.{Derivation}
@@ -116,10 +116,10 @@ module _ (law : UnfoldingIsAttack ℕ) (view : LinearView) (attack : Attack) (is
       (derived_sound (products_of view) (set_of attack.derivation.leak) attack.derivation.steps attack.derivation.root is.derivation)
 
 pub derived_attacks_hold : UnfoldingIsAttack ℕ
-    → ((view : LinearView) (attack : Attack) → IsView view → are_small view.columns ≡ true → InRange view attack → attack_of view (attack_text view attack) ≡ Ok attack)
+    → ((view : LinearView) (attack : Attack) → IsView view → InRange view attack → attack_of view (attack_text view attack) ≡ Ok attack)
     → DerivedAttacksHold
 derived_attacks_hold law written = record {
   in_range = attack_in_range law;
   holds = attack_holds law;
-  read_back = λ view attack is_view small is. written view attack is_view small (attack_in_range law view attack is);
+  read_back = λ view attack is_view is. written view attack is_view (attack_in_range law view attack is);
 }

@@ -1,10 +1,10 @@
 -- The laws of derivations.
-use Rattle.std.specs.Prelude.{◌≡◌, ◌<◌, ◌≤◌, ◌*◌, ℕ, List, length, All, Ok, true}
+use Rattle.std.specs.Prelude.{◌≡◌, ◌<◌, ◌≤◌, ◌*◌, ℕ, List, length, All, Ok}
 use Rattle.span_model.specs.Columns.{Columns, set_of}
 use Rattle.span_model.specs.Attack.{Product, IsLeak}
 use Rattle.linear_view.specs.View.{LinearView, IsView, products_of}
 use Rattle.attack_text.specs.AttackText.{attack_text}
-use Rattle.attack_text.specs.Ranges.{InRange, are_small}
+use Rattle.attack_text.specs.Ranges.{InRange}
 use Rattle.attack_text.specs.Reading.{attack_of}
 use Rattle.attack_text.specs.declared.attack.Attack.{Attack}
 use Rattle.attack_text.specs.declared.attack.Step.{Step}
@@ -42,5 +42,4 @@ pub record IsDerivedAttack (view : LinearView) (attack : Attack) : Type 0 where
 pub record DerivedAttacksHold : Type 0 where
   pub in_range : (view : LinearView) (attack : Attack) → IsDerivedAttack view attack → InRange view attack
   pub holds : (view : LinearView) (attack : Attack) → IsDerivedAttack view attack → Holds view attack
-  pub read_back : (view : LinearView) (attack : Attack) → IsView view → are_small view.columns ≡ true → IsDerivedAttack view attack
-      → attack_of view (attack_text view attack) ≡ Ok attack
+  pub read_back : (view : LinearView) (attack : Attack) → IsView view → IsDerivedAttack view attack → attack_of view (attack_text view attack) ≡ Ok attack

@@ -8,12 +8,7 @@ use linear_view::{Column, ColumnKind, View, view_of};
 use std::alloc::Global;
 use std::process::Abort;
 use std::test::Fail;
-use usuba0::{Core, CoreBuilder, Reg, Turn};
-
-fn view(rt: &impl Abort, alloc: Global, core: &Core) -> Result<View, Fail> {
-    assert!(rt; core.fits());
-    Ok(view_of(alloc, core)?)
-}
+use usuba0::{CoreBuilder, Reg, Turn};
 
 fn sum(rt: &impl Abort, builder: &mut CoreBuilder, a: Reg, b: Reg) -> Result<Reg, Fail> {
     assert!(rt; builder.terms() < 99);
@@ -36,7 +31,8 @@ fn view_of_outputs(
     assert!(rt; !outputs.is_empty() && outputs.len() < 99);
     assert!(rt; are_held(&builder, outputs));
     let core = builder.finish(alloc, outputs)?;
-    view(rt, alloc, &core)
+    assert!(rt; core.fits());
+    Ok(view_of(alloc, &core)?)
 }
 
 fn are_held(builder: &CoreBuilder, registers: &[Reg]) -> bool
@@ -53,14 +49,11 @@ fn input_leaks(
     number: u32,
     bit: u32,
 ) -> Result<bool, Fail> {
-    let mut row = BitRow::new(alloc, view.columns())?;
     let kind = ColumnKind::Input;
     let c = view
         .find(Column { kind, number, bit })
         .expect(rt, "a column");
-    assert!(rt; c < row.columns());
-    row.flip(c);
-    Ok(leaks(alloc, view, &row)?)
+    is_leak(rt, alloc, view, &[c])
 }
 
 fn is_leak(rt: &impl Abort, alloc: Global, view: &View, columns: &[u32]) -> Result<bool, Fail> {
@@ -107,9 +100,9 @@ fn a_product_of_an_input_with_itself_leaks_it(rt: HostRuntime) -> Result<(), Fai
     let alloc = rt.alloc();
     let mut builder = CoreBuilder::new(alloc, 1, 1)?;
     let x = builder.input(0);
-    let z = builder.and(x, x)?;
-    let core = builder.finish(alloc, &[z])?;
-    expect_only_input_0(&rt, alloc, &view(&rt, alloc, &core)?)
+    let z = product(&rt, &mut builder, x, x)?;
+    let view = view_of_outputs(&rt, alloc, builder, &[z])?;
+    expect_only_input_0(&rt, alloc, &view)
 }
 
 // x & y and x & (x ^ y)
@@ -119,13 +112,10 @@ fn two_products_leak_together(rt: HostRuntime) -> Result<(), Fail> {
     let mut builder = CoreBuilder::new(alloc, 1, 2)?;
     let x = builder.input(0);
     let y = builder.input(1);
-    let a = builder.and(x, y)?;
-    assert!(rt; builder.terms() < 9);
-    let sum = builder.xor(x, y)?;
-    assert!(rt; builder.terms() < 9);
-    let b = builder.and(x, sum)?;
-    let core = builder.finish(alloc, &[a, b])?;
-    let view = view(&rt, alloc, &core)?;
+    let a = product(&rt, &mut builder, x, y)?;
+    let both = sum(&rt, &mut builder, x, y)?;
+    let b = product(&rt, &mut builder, x, both)?;
+    let view = view_of_outputs(&rt, alloc, builder, &[a, b])?;
     expect_only_input_0(&rt, alloc, &view)?;
     assert!(rt; !input_leaks(&rt, alloc, &view, 1, 0)?);
     Ok(())
@@ -138,11 +128,10 @@ fn a_product_of_a_sum_with_a_part_of_it_is_secure(rt: HostRuntime) -> Result<(),
     let mut builder = CoreBuilder::new(alloc, 1, 2)?;
     let x = builder.input(0);
     let y = builder.input(1);
-    let sum = builder.xor(x, y)?;
-    assert!(rt; builder.terms() < 9);
-    let z = builder.and(sum, y)?;
-    let core = builder.finish(alloc, &[z])?;
-    expect_secure(&rt, alloc, &view(&rt, alloc, &core)?)
+    let both = sum(&rt, &mut builder, x, y)?;
+    let z = product(&rt, &mut builder, both, y)?;
+    let view = view_of_outputs(&rt, alloc, builder, &[z])?;
+    expect_secure(&rt, alloc, &view)
 }
 
 // x & (x <<< 1) over 8 bits
@@ -152,10 +141,8 @@ fn a_product_of_a_register_with_its_rotation_leaks(rt: HostRuntime) -> Result<()
     let mut builder = CoreBuilder::new(alloc, 8, 1)?;
     let x = builder.input(0);
     let turned = builder.shift(Turn::RotLeft, 1, x)?;
-    assert!(rt; builder.terms() < 9);
-    let z = builder.and(x, turned)?;
-    let core = builder.finish(alloc, &[z])?;
-    let view = view(&rt, alloc, &core)?;
+    let z = product(&rt, &mut builder, x, turned)?;
+    let view = view_of_outputs(&rt, alloc, builder, &[z])?;
     let leak = expect_leak(&rt, alloc, &view)?;
     assert!(rt; leak.last().map_or(false, |c| c < 8));
     Ok(())
@@ -168,25 +155,16 @@ fn only_the_bit_that_both_products_hold_leaks(rt: HostRuntime) -> Result<(), Fai
     let mut builder = CoreBuilder::new(alloc, 2, 2)?;
     let x = builder.input(0);
     let y = builder.input(1);
-    let z = builder.and(x, y)?;
-    assert!(rt; builder.terms() < 9);
     let one = builder.constant(1)?;
-    assert!(rt; builder.terms() < 9);
-    let low = builder.and(x, one)?;
-    assert!(rt; builder.terms() < 9);
-    let sum = builder.xor(x, y)?;
-    assert!(rt; builder.terms() < 9);
-    let w = builder.and(low, sum)?;
-    let core = builder.finish(alloc, &[z, w])?;
-    let view = view(&rt, alloc, &core)?;
+    let z = product(&rt, &mut builder, x, y)?;
+    let low = product(&rt, &mut builder, x, one)?;
+    let both = sum(&rt, &mut builder, x, y)?;
+    let w = product(&rt, &mut builder, low, both)?;
+    let view = view_of_outputs(&rt, alloc, builder, &[z, w])?;
     expect_only_input_0(&rt, alloc, &view)?;
     assert!(rt; !input_leaks(&rt, alloc, &view, 0, 1)?);
-    let mut both = BitRow::new(alloc, view.columns())?;
-    assert!(rt; both.columns() > 1);
-    assert!(rt; !leaks(alloc, &view, &both)?);
-    both.flip(0);
-    both.flip(1);
-    assert!(rt; !leaks(alloc, &view, &both)?);
+    assert!(rt; !is_leak(&rt, alloc, &view, &[0, 1])?);
+    assert!(rt; !is_leak(&rt, alloc, &view, &[])?);
     Ok(())
 }
 

@@ -3,7 +3,8 @@ ghost use Rattle.std.specs.Bool.{OnTrue};
 ghost use Rattle.usuba0.specs.Builder.{Holds};
 
 use crate::{
-    Attack, Derivation, Listing, derivations_hold, derive, holds, read_attack, unfold, write_attack,
+    Attack, Derivation, Listing, derivations_hold, derive, derived_attacks_hold, holds,
+    read_attack, unfold, write_attack,
 };
 use gf2_span::BitRow;
 use linear_view::{View, view_of};
@@ -14,8 +15,9 @@ use tor_edge::{List, MemSink};
 use usuba0::{CoreBuilder, Reg};
 
 #[test]
-fn the_law_can_be_called_at_a_type_of_columns() {
+fn the_laws_can_be_called() {
     derivations_hold::<u32>();
+    derived_attacks_hold();
 }
 
 fn sum(rt: &impl Abort, builder: &mut CoreBuilder, a: Reg, b: Reg) -> Result<Reg, Fail> {

@@ -10,13 +10,11 @@ mod random;
 mod sketch;
 
 use crate::circuits::{chain, falling_shifts, random_sums, rectangle, rising_shifts, rotation};
-use anyhow::{Context, Result, bail, ensure};
+use anyhow::{Context, Result, ensure};
 use attack_cert::derive;
 use gf2_span::BitRow;
 use linear_view::{Column, ColumnKind, View, view_of};
 use std::alloc::Global;
-use std::env;
-use std::rt::Env;
 use std::time::CpuClock;
 use tightprove::{Verdict, search};
 use usuba0::Core;
@@ -40,8 +38,11 @@ fn time_search(
     };
     print_figures(rt, name, core, &view)?;
     println!(rt; "{answer}")?;
-    eprintln!(rt; "{name}: view_of {:?}", viewed.saturating_sub(start))?;
-    eprintln!(rt; "{name}: search {:?}", end.saturating_sub(viewed))?;
+    eprintln!(rt;
+        "{name}: view_of {:?}, search {:?}",
+        viewed.saturating_sub(start),
+        end.saturating_sub(viewed)
+    )?;
     Ok(())
 }
 
@@ -66,7 +67,7 @@ fn time_derive(
 
 fn print_figures(rt: &impl Print, name: &str, core: &Core, view: &View) -> Result<()> {
     let (equations, products, columns) = (core.equations(), core.products(), view.columns());
-    print!(rt; "{name}: {equations} equations, {products} products, {columns} columns: ")?;
+    print!(rt; "{name}: equations {equations}, products {products}, columns {columns}: ")?;
     Ok(())
 }
 
@@ -86,25 +87,12 @@ fn first_input(alloc: Global, view: &View) -> Result<BitRow>
     Ok(row)
 }
 
-// Whether the circuits that take long are to be timed too.
-fn wants_all(rt: &(impl Alloc<A = Global> + Env)) -> Result<bool> {
-    match env::args(rt)?.nth(1) {
-        None => Ok(false),
-        Some(word) if word.as_str() == "all" => Ok(true),
-        Some(_) => bail!("usage: search_bench [all]"),
-    }
-}
-
 fn main(rt: HostRuntime) -> Result<()> {
     let alloc = rt.alloc();
-    let all = wants_all(&rt)?;
     time_search(&rt, "a word with its rotation", &rotation(alloc)?)?;
     time_search(&rt, "25 rounds of Rectangle", &rectangle(alloc)?)?;
-    time_derive(&rt, "a chain of products", &chain(alloc)?)?;
-    if all {
-        time_search(&rt, "shifts in rising order", &rising_shifts(alloc)?)?;
-        time_search(&rt, "shifts in falling order", &falling_shifts(alloc)?)?;
-        time_search(&rt, "products of random sums", &random_sums(alloc)?)?;
-    }
-    Ok(())
+    time_search(&rt, "shifts in rising order", &rising_shifts(alloc)?)?;
+    time_search(&rt, "shifts in falling order", &falling_shifts(alloc)?)?;
+    time_search(&rt, "products of random sums", &random_sums(alloc)?)?;
+    time_derive(&rt, "a chain of products", &chain(alloc)?)
 }

@@ -5,3 +5,6 @@ pub mod RangeLemmas
 pub mod EndLemmas
 pub mod RoundLemmas
 pub mod UseLemmas
+pub mod CutBackLemmas
+pub mod FormBackLemmas
+pub mod SpelledLemmas

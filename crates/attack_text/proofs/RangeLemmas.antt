@@ -49,27 +49,27 @@ SoFarInRange view (with_root derivation) = Derives view derivation
 SoFarInRange view (with_probes derivation t probes) = Probing view derivation t probes
 SoFarInRange view (with_large derivation) = Derives view derivation
 
-no_ok : {X : Type 0} (wrong : CertFault) (x : X) → Err wrong ≡ Ok x → ⊥
+pub no_ok : {X : Type 0} (wrong : CertFault) (x : X) → Err wrong ≡ Ok x → ⊥
 no_ok wrong x e = cc
 
-no_some : (leak : List Bool) → None ≡ Some leak → ⊥
+pub no_some : (leak : List Bool) → None ≡ Some leak → ⊥
 no_some leak e = cc
 
-abbrev value_or : {X : Type 0} → X → Result X CertFault → X
+abbrev pub value_or : {X : Type 0} → X → Result X CertFault → X
 value_or d (Ok x) = x
 value_or d (Err wrong) = d
 
 -- what a line said, and what follows it
-then_ok : {X : Type 0} (next : X → SoFar) (said : Result X CertFault) (follows : SoFar → Result Attack CertFault) (attack : Attack)
+pub then_ok : {X : Type 0} (next : X → SoFar) (said : Result X CertFault) (follows : SoFar → Result Attack CertFault) (attack : Attack)
     → unless_fault (added next said) follows ≡ Ok attack → (x : X) × (said ≡ Ok x) × (follows (next x) ≡ Ok attack)
 then_ok next (Ok x) follows attack e = (x, refl, e)
 then_ok next (Err wrong) follows attack e = absurd (no_ok wrong attack e)
 
-pick_ok : {X : Type 0} (b : Bool) (said x : X) (wrong : CertFault) → (if b then Ok said else Err wrong) ≡ Ok x → (b ≡ true) × (said ≡ x)
+pub pick_ok : {X : Type 0} (b : Bool) (said x : X) (wrong : CertFault) → (if b then Ok said else Err wrong) ≡ Ok x → (b ≡ true) × (said ≡ x)
 pick_ok true said x wrong e = (refl, ap (value_or said) e)
 pick_ok false said x wrong e = absurd (no_ok wrong x e)
 
-said_ok : {X : Type 0} (k : ℕ) (said : Option X) (test : X → Bool) (x : X) → said_in_range k said test ≡ Ok x → test x ≡ true
+pub said_ok : {X : Type 0} (k : ℕ) (said : Option X) (test : X → Bool) (x : X) → said_in_range k said test ≡ Ok x → test x ≡ true
 said_ok k None test x e = absurd (no_ok (fault.Syntax k) x e)
 said_ok k (Some said) test x e = let w = pick_ok (test said) said x (fault.OutOfRange k) e in ap test (sym w.1) ∙ w.0
 
@@ -96,7 +96,7 @@ leak_size (column ∷ columns) (word ∷ words) leak e =
           mapped false (leak_of columns (word ∷ words)) leak (length columns) f (leak_size columns (word ∷ words)))
     ]
 
-in_order_ok : (k : ℕ) (found : Option (List Bool)) (leak : List Bool) → leak_in_order k found ≡ Ok leak → found ≡ Some leak
+pub in_order_ok : (k : ℕ) (found : Option (List Bool)) (leak : List Bool) → leak_in_order k found ≡ Ok leak → found ≡ Some leak
 in_order_ok k None leak e = absurd (no_ok (fault.OutOfRange k) leak e)
 in_order_ok k (Some bits) leak e = ap (λ (b : List Bool). Some b) (ap (value_or bits) e)
 

@@ -11,7 +11,7 @@ use Rattle.linear_view.specs.View.{LinearView, IsSmallName, IsView}
 use Rattle.linear_view.specs.declared.column.Column.{Column}
 use Rattle.linear_view.specs.declared.column.ColumnKind.{ColumnKind}
 use Rattle.linear_view.specs.declared.column.ColumnKind.TheVariants.{Input, Product, Refresh}
-use Rattle.attack_text.specs.AttackText.{leak_words, side_word, core_words, step_words, steps_text, steps_count_text, counted_steps_text, root_text, probe_words, probes_text, probes_count_text, listing_text, leak_text, head_text, body_text, attack_text}
+use Rattle.attack_text.specs.AttackText.{leak_words, side_word, core_words, step_words, steps_text, steps_count_text, counted_steps_text, root_text, probe_words, probes_text, probes_count_text, listing_text, leak_text, head_text, body_text, attack_text, first_version_text}
 use Rattle.attack_text.specs.Forms.{Counts, core_form, column_of_parts, column_of, side_of, leak_form, steps_form, step_form, root_form, listing_form, probe_form}
 use Rattle.attack_text.specs.Ranges.{is_column, leak_of, are_uses, is_steps_count, is_step, is_probe, are_steps, is_listed, most_probes, InRange}
 use Rattle.attack_text.specs.Reading.{SoFar, nothing, second, opened, with_leak, with_steps, with_root, with_probes, with_large, said_in_range, counts_of_view, leak_in_order, leak_at, with_listing, added, unless_fault, at_end, attack_from, after_line, is_listing, attack_of}
@@ -117,7 +117,7 @@ column_is_itself column =
     (and_from (bytes_eq (kind_text column.kind) (kind_text column.kind)) (eqb column.number column.number) (same_kind column.kind) (eq-eqb column.number column.number refl))
     (eq-eqb column.bit column.bit refl)
 
-columns_are : (a b : Column) → is_column (Some a) b ≡ true → a ≡ b
+pub columns_are : (a b : Column) → is_column (Some a) b ≡ true → a ≡ b
 columns_are a b h =
     let w = and_parts (bytes_eq (kind_text a.kind) (kind_text b.kind) && eqb a.number b.number) (eqb a.bit b.bit) h in
     let v = and_parts (bytes_eq (kind_text a.kind) (kind_text b.kind)) (eqb a.number b.number) w.0 in
@@ -126,10 +126,10 @@ columns_are a b h =
     ∙ ap (λ (n : ℕ). made b.kind n a.bit) (eqb-true a.number b.number v.1)
     ∙ ap (λ (m : ℕ). made b.kind b.number m) (eqb-true a.bit b.bit w.1)
 
-abbrev AreSmall : List Column → Type 0
+abbrev pub AreSmall : List Column → Type 0
 AreSmall columns = All IsSmallName columns
 
-small_parts : (column : Column) (columns : List Column) → AreSmall (column ∷ columns) → (column.number < 2 ^ 32) × (column.bit < 2 ^ 32) × AreSmall columns
+pub small_parts : (column : Column) (columns : List Column) → AreSmall (column ∷ columns) → (column.number < 2 ^ 32) × (column.bit < 2 ^ 32) × AreSmall columns
 small_parts column columns small =
     let first : IsSmallName column = small 0 column (omega arith) in
     (first.0, first.1, λ k d within. small (suc k) d (omega arith))
@@ -405,9 +405,9 @@ listing_back view derivation Large k few listed =
     ap (λ (x : List ℕ). attack_from view (with_root derivation) k (lines_of x)) (sym (append-nil (line_text (codes "probes" ∷ codes "large" ∷ []))))
     ∙ line_back view (with_root derivation) (with_large derivation) k (codes "probes") (codes "large" ∷ []) [] refl refl
 
--- the whole text
-pub text_back : (view : LinearView) (attack : Attack) → IsView view → InRange view attack → attack_of view (attack_text view attack) ≡ Ok attack
-text_back view attack is_view in_range =
+-- from the leak on
+body_back : (view : LinearView) (attack : Attack) (k : ℕ) → IsView view → InRange view attack → attack_from view opened k (lines_of (body_text view attack)) ≡ Ok attack
+body_back view attack k is_view in_range =
     let leak : List Bool = attack.derivation.leak in
     let steps : List Step = attack.derivation.steps in
     let root : List ℕ = attack.derivation.root in
@@ -417,18 +417,27 @@ text_back view attack is_view in_range =
     let steps_few : n ≤ 2 * length view.products = leb-true n (2 * length view.products) in_range.steps_count in
     let end : List ℕ = root_text root ++ listing_text attack.listing in
     let after_leak : List ℕ = counted_steps_text steps ++ end in
-    let stepped = steps_back view leak n [] steps end 5 (omega arith) (omega arith) (omega arith) in_range.steps in
-    let head : attack_of view (attack_text view attack) ≡ attack_from view opened 3 (lines_of (leak_text view.columns leak ++ after_leak)) =
-    head_back view (leak_text view.columns leak ++ after_leak) (omega arith) (omega arith) in
-    let leaked : attack_from view opened 3 (lines_of (leak_text view.columns leak ++ after_leak)) ≡ attack_from view (with_leak leak) 4 (lines_of after_leak) =
-    line_back view opened (with_leak leak) 3 (codes "leak") (leak_words view.columns leak) after_leak (leak_plain view.columns leak is_view.small_names)
-    (leak_line_back view 3 leak is_view.names_differ is_view.small_names in_range.leak) in
+    let stepped = steps_back view leak n [] steps end (k + 1 + 1) (omega arith) (omega arith) (omega arith) in_range.steps in
+    let leaked : attack_from view opened k (lines_of (leak_text view.columns leak ++ after_leak)) ≡ attack_from view (with_leak leak) (k + 1) (lines_of after_leak) =
+    line_back view opened (with_leak leak) k (codes "leak") (leak_words view.columns leak) after_leak (leak_plain view.columns leak is_view.small_names)
+    (leak_line_back view k leak is_view.names_differ is_view.small_names in_range.leak) in
     let counted_plain : are_plain_words (codes "steps" ∷ decimal n ∷ []) ≡ true = rw (is_plain_decimal n (omega arith)) refl in
-    let counted : attack_from view (with_leak leak) 4 (lines_of after_leak) ≡ attack_from view (with_steps leak n []) 5 (lines_of (steps_text 0 steps ++ end)) =
-    ap (λ (x : List ℕ). attack_from view (with_leak leak) 4 (lines_of x)) (append_assoc (steps_count_text n) (steps_text 0 steps) end)
-    ∙ line_back view (with_leak leak) (with_steps leak n []) 4 (codes "steps") (decimal n ∷ []) (steps_text 0 steps ++ end) counted_plain
-    (ap (added (λ m. with_steps leak m [])) (said_back 4 (steps_form (codes "steps" ∷ decimal n ∷ [])) (is_steps_count view) n (steps_form_back n (omega arith)) in_range.steps_count)) in
+    let counted : attack_from view (with_leak leak) (k + 1) (lines_of after_leak) ≡ attack_from view (with_steps leak n []) (k + 1 + 1) (lines_of (steps_text 0 steps ++ end)) =
+    ap (λ (x : List ℕ). attack_from view (with_leak leak) (k + 1) (lines_of x)) (append_assoc (steps_count_text n) (steps_text 0 steps) end)
+    ∙ line_back view (with_leak leak) (with_steps leak n []) (k + 1) (codes "steps") (decimal n ∷ []) (steps_text 0 steps ++ end) counted_plain
+    (ap (added (λ m. with_steps leak m [])) (said_back (k + 1) (steps_form (codes "steps" ∷ decimal n ∷ [])) (is_steps_count view) n (steps_form_back n (omega arith)) in_range.steps_count)) in
     let rooted : attack_from view (with_steps leak n steps) stepped.0 (lines_of end) ≡ attack_from view (with_root attack.derivation) (stepped.0 + 1) (lines_of (listing_text attack.listing)) =
     line_back view (with_steps leak n steps) (with_root attack.derivation) stepped.0 (codes "root") (codes "uses" ∷ map decimal root) (listing_text attack.listing)
     (uses_plain 0 n root (omega arith) in_range.root) (root_back view leak n steps root stepped.0 (omega arith) (omega arith) in_range.root) in
-    head ∙ leaked ∙ counted ∙ stepped.1 ∙ rooted ∙ listing_back view attack.derivation attack.listing (stepped.0 + 1) (omega arith) in_range.listing
+    leaked ∙ counted ∙ stepped.1 ∙ rooted ∙ listing_back view attack.derivation attack.listing (stepped.0 + 1) (omega arith) in_range.listing
+
+-- the whole text
+pub text_back : (view : LinearView) (attack : Attack) → IsView view → InRange view attack → attack_of view (attack_text view attack) ≡ Ok attack
+text_back view attack is_view in_range =
+    let columns_few : length view.columns ≤ 32768 = is_view.columns_fit in
+    let products_few : length view.products ≤ 32768 = is_view.products_fit in
+    head_back view (body_text view attack) (omega arith) (omega arith) ∙ body_back view attack 3 is_view in_range
+
+pub first_version_back : (view : LinearView) (attack : Attack) → IsView view → InRange view attack → attack_of view (first_version_text view attack) ≡ Ok attack
+first_version_back view attack is_view in_range =
+    line_back view nothing opened 1 (codes "attack") [] (body_text view attack) refl refl ∙ body_back view attack 2 is_view in_range

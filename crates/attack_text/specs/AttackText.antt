@@ -84,3 +84,7 @@ head_text columns products = line_text (codes "attack" ∷ codes "2" ∷ []) ++ 
 -- the text of an attack on the circuit of a view, in version 2
 abbrev pub attack_text : LinearView → Attack → List ℕ
 attack_text view attack = head_text (length view.columns) (length view.products) ++ body_text view attack
+
+-- the text of the same attack in version 1: one line stands for the first two
+abbrev pub first_version_text : LinearView → Attack → List ℕ
+first_version_text view attack = line_text (codes "attack" ∷ []) ++ body_text view attack

@@ -10,5 +10,5 @@ mod tests;
 mod write;
 
 pub use attack::{Attack, Derivation, Listing, Probe, Side, Step};
-pub use read::{CertFault, read_attack, written_is_read};
+pub use read::{CertFault, read_attack, read_is_written, written_is_read};
 pub use write::write_attack;

@@ -1,6 +1,6 @@
-ghost use Rattle.std.specs.Prelude.{◌≡◌, ◌+◌, ◌<◌, ◌≤◌, ◌^◌, ◌∷◌, None, Some, Ok, Err, true, ℕ, List, Bool, [], length, IfOk, MatchResult};
+ghost use Rattle.std.specs.Prelude.{◌≡◌, ◌⊎◌, ◌+◌, ◌<◌, ◌≤◌, ◌^◌, ◌∷◌, None, Some, Ok, Err, true, ℕ, List, Bool, [], length, IfOk, MatchResult};
 ghost use Rattle.linear_view.specs.View.{LinearView, IsView};
-ghost use Rattle.attack_text.specs.AttackText.{attack_text};
+ghost use Rattle.attack_text.specs.AttackText.{attack_text, first_version_text};
 ghost use Rattle.attack_text.specs.Parts.{rest_of, with_every_probe, Reads};
 ghost use Rattle.attack_text.specs.Ranges.{InRange};
 ghost use Rattle.attack_text.specs.Reading as reading;
@@ -155,4 +155,13 @@ fn read_probes(
 pub fn written_is_read()
     ensures { (view : LinearView) (attack : Attack) → IsView view → InRange view attack
         → reading.attack_of view (attack_text view attack) ≡ Ok attack }
+{}
+
+/// Bytes are read as an attack only where it is in range and they are one of its two texts, that of version 2, which `written_is_read`
+/// tells of, or that of version 1, which is read too.
+pub fn read_is_written()
+    ensures only_written { (view : LinearView) (bytes : List ℕ) (attack : Attack) → IsView view → reading.attack_of view bytes ≡ Ok attack
+        → InRange view attack × ((bytes ≡ attack_text view attack) ⊎ (bytes ≡ first_version_text view attack)) }
+    ensures first_version { (view : LinearView) (attack : Attack) → IsView view → InRange view attack
+        → reading.attack_of view (first_version_text view attack) ≡ Ok attack }
 {}

@@ -1,5 +1,5 @@
 -- The words of a line of a form, from what the line says.
-use Rattle.std.proofs.Common.{◌≡◌, ◌≢◌, ℕ, suc, ◌+◌, ◌^◌, ◌<◌, ◌≤◌, ◌⊎◌, Bool, true, false, eqb, ltb, leb, not, ◌&&◌, if◌then◌else◌, List, [], ◌∷◌, ◌++◌, length, get_or, map, Option, None, Some, unwrap_or, is_some, refl, sym, ap, ◌∙◌, inl, inr, arith, append_assoc, codes, decimal}
+use Rattle.std.proofs.Common.{◌≡◌, ℕ, suc, ◌^◌, ◌<◌, Bool, true, false, eqb, ltb, leb, not, ◌&&◌, if◌then◌else◌, List, [], ◌∷◌, ◌++◌, length, get_or, map, Option, None, Some, is_some, refl, sym, ap, ◌∙◌, inl, inr, arith, append_assoc, codes, decimal}
 use Rattle.std.specs.Char.{is_ascii_digit}
 use Rattle.std.specs.List.{slice_split, list_all, join_with_byte}
 use Rattle.std.specs.Option.{option_map}

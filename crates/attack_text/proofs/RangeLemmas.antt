@@ -1,16 +1,15 @@
 -- An attack that a text spells is in range.
-use Rattle.std.proofs.Common.{◌≡◌, ℕ, suc, ◌+◌, ◌*◌, ◌<◌, ◌≤◌, ◌⊎◌, Bool, true, false, ltb, leb, ◌&&◌, if◌then◌else◌, List, [], ◌∷◌, ◌++◌, length, Option, None, Some, unwrap_or, Result, Ok, Err, refl, sym, ap, ◌∙◌, subst, inl, inr, arith, length-append}
+use Rattle.std.proofs.Common.{◌≡◌, ℕ, suc, ◌+◌, ◌<◌, ◌≤◌, Bool, true, false, ltb, leb, if◌then◌else◌, List, [], ◌∷◌, ◌++◌, length, Option, None, Some, unwrap_or, Result, Ok, Err, refl, sym, ap, ◌∙◌, subst, inl, inr, arith, length-append}
 use Rattle.std.specs.List.{list_all}
 use Rattle.std.specs.Option.{option_map}
-use Rattle.std.proofs.lemmas.Bool.{cases_Bool, and_parts, and_from, ltb-true, ltb-false, leb-true, le-leb, eqb-true}
+use Rattle.std.proofs.lemmas.Bool.{cases_Bool, and_parts, and_from, ltb-true, ltb-false}
 use Rattle.linear_view.specs.View.{LinearView}
 use Rattle.linear_view.specs.declared.column.Column.{Column}
 use Rattle.attack_text.specs.Forms.{column_of, leak_form, steps_form, step_form, root_form, listing_form, probe_form}
 use Rattle.attack_text.specs.Ranges.{leak_of, is_column, are_uses, is_steps_count, is_step, is_probe, are_steps, is_listed, most_probes, InRange}
-use Rattle.attack_text.specs.Reading.{SoFar, nothing, second, opened, with_leak, with_steps, with_root, with_probes, with_large, said_in_range, leak_in_order, leak_at, added, with_version, with_listing, is_listing, unless_fault, at_end, attack_from, after_line, version_line, core_line, leak_line, steps_line, step_line, root_line, listing_line, probe_line}
+use Rattle.attack_text.specs.Reading.{SoFar, nothing, second, opened, with_leak, with_steps, with_root, with_probes, with_large, said_in_range, leak_in_order, leak_at, added, with_version, with_listing, is_listing, unless_fault, at_end, attack_from, version_line, core_line, leak_line, steps_line, step_line, root_line, listing_line, probe_line}
 use Rattle.attack_text.specs.declared.attack.Attack.{Attack}
 use Rattle.attack_text.specs.declared.attack.Derivation.{Derivation}
-use Rattle.attack_text.specs.declared.attack.Listing.{Listing}
 use Rattle.attack_text.specs.declared.attack.Listing.TheVariants.{Probes, Large}
 use Rattle.attack_text.specs.declared.attack.Probe.{Probe}
 use Rattle.attack_text.specs.declared.attack.Step.{Step}

@@ -1,5 +1,5 @@
 -- What is written of an attack is read as the same attack.
-use Rattle.std.proofs.Common.{◌≡◌, ℕ, zero, suc, ◌+◌, ◌*◌, ◌^◌, ◌<◌, ◌≤◌, ◌⊎◌, Bool, true, false, cond, ltb, leb, eqb, not, ◌&&◌, List, [], ◌∷◌, ◌++◌, length, map, All, Option, None, Some, is_some, Result, Ok, Err, refl, sym, ap, ◌∙◌, subst, inl, inr, arith, append_assoc, append-nil, length-append, slice_get, codes, decimal, flat_map}
+use Rattle.std.proofs.Common.{◌≡◌, ℕ, suc, ◌+◌, ◌*◌, ◌^◌, ◌<◌, ◌≤◌, Bool, true, false, ltb, leb, eqb, not, ◌&&◌, List, [], ◌∷◌, ◌++◌, length, map, All, Option, None, Some, is_some, Result, Ok, Err, refl, sym, ap, ◌∙◌, subst, inl, inr, arith, append_assoc, append-nil, length-append, slice_get, codes, decimal}
 use Rattle.std.specs.Char.{is_ascii_digit}
 use Rattle.std.specs.List.{slice_split, list_all}
 use Rattle.std.specs.Option.{option_map}
@@ -11,10 +11,10 @@ use Rattle.linear_view.specs.View.{LinearView, IsSmallName, IsView}
 use Rattle.linear_view.specs.declared.column.Column.{Column}
 use Rattle.linear_view.specs.declared.column.ColumnKind.{ColumnKind}
 use Rattle.linear_view.specs.declared.column.ColumnKind.TheVariants.{Input, Product, Refresh}
-use Rattle.attack_text.specs.AttackText.{leak_words, side_word, core_words, step_words, steps_text, steps_count_text, counted_steps_text, root_text, probe_words, probes_text, probes_count_text, listing_text, leak_text, head_text, body_text, attack_text, first_version_text}
+use Rattle.attack_text.specs.AttackText.{leak_words, side_word, core_words, step_words, steps_text, steps_count_text, counted_steps_text, root_text, probe_words, probes_text, listing_text, leak_text, head_text, body_text, attack_text, first_version_text}
 use Rattle.attack_text.specs.Forms.{Counts, core_form, column_of_parts, column_of, side_of, leak_form, steps_form, step_form, root_form, listing_form, probe_form}
 use Rattle.attack_text.specs.Ranges.{is_column, leak_of, are_uses, is_steps_count, is_step, is_probe, are_steps, is_listed, most_probes, InRange}
-use Rattle.attack_text.specs.Reading.{SoFar, nothing, second, opened, with_leak, with_steps, with_root, with_probes, with_large, said_in_range, counts_of_view, leak_in_order, leak_at, with_listing, added, unless_fault, at_end, attack_from, after_line, is_listing, attack_of}
+use Rattle.attack_text.specs.Reading.{SoFar, nothing, second, opened, with_leak, with_steps, with_root, with_probes, with_large, said_in_range, counts_of_view, leak_in_order, leak_at, with_listing, added, unless_fault, attack_from, after_line, is_listing, attack_of}
 use Rattle.attack_text.specs.declared.attack.Attack.{Attack}
 use Rattle.attack_text.specs.declared.attack.Derivation.{Derivation}
 use Rattle.attack_text.specs.declared.attack.Listing.{Listing}

@@ -1,9 +1,9 @@
 -- Bytes that are read as an attack are its text, in one of its two versions.
-use Rattle.std.proofs.Common.{◌≡◌, ℕ, suc, ◌+◌, ◌*◌, ◌^◌, ◌<◌, ◌≤◌, ◌⊎◌, Bool, true, false, eqb, ltb, leb, ◌&&◌, if◌then◌else◌, List, [], ◌∷◌, ◌++◌, length, map, Option, None, Some, Result, Ok, Err, refl, sym, ap, ◌∙◌, subst, inl, inr, arith, append_assoc, append-nil, length-append, codes, decimal}
+use Rattle.std.proofs.Common.{◌≡◌, ℕ, suc, ◌+◌, ◌*◌, ◌^◌, ◌<◌, ◌≤◌, ◌⊎◌, Bool, true, false, eqb, ltb, leb, ◌&&◌, List, [], ◌∷◌, ◌++◌, length, map, Option, None, Some, Result, Ok, Err, refl, sym, ap, ◌∙◌, inl, inr, arith, append_assoc, append-nil, length-append, codes, decimal}
 use Rattle.std.specs.List.{list_all}
 use Rattle.std.proofs.lemmas.Bool.{cases_Bool, and_parts, ltb-true, ltb-false, leb-true, eqb-true}
 use Rattle.linear_view.specs.View.{LinearView, IsView}
-use Rattle.attack_text.specs.AttackText.{leak_words, core_words, step_words, steps_text, steps_count_text, counted_steps_text, root_text, probe_words, probes_text, listing_text, leak_text, body_text, attack_text, first_version_text}
+use Rattle.attack_text.specs.AttackText.{leak_words, core_words, step_words, steps_text, steps_count_text, counted_steps_text, root_text, probe_words, probes_text, listing_text, body_text, attack_text, first_version_text}
 use Rattle.attack_text.specs.Forms.{Counts, version_form, core_form, leak_form, steps_form, step_form, root_form, listing_form, probe_form}
 use Rattle.attack_text.specs.Ranges.{leak_of, are_uses, is_steps_count, is_step, is_probe, is_listed, most_probes, InRange}
 use Rattle.attack_text.specs.Reading.{SoFar, nothing, second, opened, with_leak, with_steps, with_root, with_probes, with_large, said_in_range, counts_of_view, leak_at, added, with_version, with_listing, is_listing, unless_fault, at_end, attack_from, attack_of, version_line, core_line, leak_line, steps_line, step_line, root_line, listing_line, probe_line}

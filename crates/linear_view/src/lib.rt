@@ -5,9 +5,8 @@ mod attacks;
 mod column;
 mod core_view;
 mod names;
+mod operand;
 mod rows;
-#[cfg(test)]
-mod tests;
 mod text;
 mod view;
 mod walk;
@@ -15,5 +14,6 @@ mod walk;
 pub use attacks::attacks_are_the_views;
 pub use column::{Column, ColumnKind};
 pub use core_view::{rows_of, view_of};
+pub use operand::{Operand, Side};
 pub use text::write_rows;
 pub use view::{View, view_with};

@@ -1,8 +1,12 @@
 ghost use Rattle.std.specs.Prelude.{◌≡◌, ◌≢◌, ◌<◌, ◌≤◌, ℕ, length, slice_get, Some, All, IfOk, IfSome, MatchOption};
 ghost use Rattle.std.specs.Option.{option_copied, option_map};
-ghost use Rattle.linear_view.specs.View.{IsView, AreOperands, HasRows, operands_of};
+ghost use Rattle.span_model.specs.Columns.{sets_of};
+ghost use Rattle.span_model.specs.Closure.{operand as operand_sets, co_operand as co_operand_sets};
+ghost use Rattle.linear_view.specs.Sides.{co_operand, operand_rows, step_of};
+ghost use Rattle.linear_view.specs.View.{IsView, AreOperands, HasRows, operands_of, products_of};
 
 use crate::column::Column;
+use crate::operand::{Operand, Side};
 use gf2_span::BitRow;
 use indexmap::IndexSet;
 use std::alloc::{AllocError, Global};
@@ -106,6 +110,31 @@ impl View {
         ensures rows { IfSome result (λ rows. HasRows (length self.now.columns) rows.now) }
     {
         Some(self.products.get(k as usize)?.right())
+    }
+
+    /// The rows of an operand, that of bit 0 first.
+    pub fn operand(&self, operand: Operand) -> &[BitRow]
+        requires { operand.product < length self.now.products }
+        ensures rows { result.now ≡ operand_rows self.now operand }
+        ensures sets { sets_of result.now ≡ operand_sets (products_of self.now) (step_of operand) }
+        ensures columns { HasRows (length self.now.columns) result.now }
+    {
+        let operands = &self.products[operand.product as usize];
+        let rows = match operand.side {
+            Side::Left => operands.left(),
+            Side::Right => operands.right(),
+        };
+        rows.as_slice()
+    }
+
+    /// The rows of the operand on the other side of the same product.
+    pub fn co_operand(&self, operand: Operand) -> &[BitRow]
+        requires { operand.product < length self.now.products }
+        ensures rows { result.now ≡ operand_rows self.now (co_operand operand) }
+        ensures sets { sets_of result.now ≡ co_operand_sets (products_of self.now) (step_of operand) }
+        ensures columns { HasRows (length self.now.columns) result.now }
+    {
+        self.operand(operand.other())
     }
 
     // The view of these columns and products.

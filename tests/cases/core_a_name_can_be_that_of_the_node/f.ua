@@ -1,0 +1,1 @@
+node f (f:b1, y:b1) returns (z:b1) let z = f & y tel

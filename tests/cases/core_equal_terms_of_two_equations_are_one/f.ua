@@ -1,0 +1,1 @@
+node f (x:b1, y:b1) returns (a:b1, b:b1) vars s:b1, t:b1 let s = x ^ y; t = x ^ y; a = s & x; b = t & y tel

@@ -1,0 +1,1 @@
+node in (in:b1, y:b1) returns (z:b1) let z = in & y tel

@@ -1,0 +1,1 @@
+node _ (x1':b1, _y:b1) returns (Z_9':b1) let Z_9' = x1' & _y tel

@@ -1,0 +1,1 @@
+node nodes (Node:b1, lets:b1) returns (tel_:b1) let tel_ = Node & lets tel

@@ -1,0 +1,1 @@
+node f (x:b1, y:b1) returns a, b : b1 vars c:b1 let c = x; a = x & y; b = c tel

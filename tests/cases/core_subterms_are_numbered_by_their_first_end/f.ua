@@ -1,0 +1,1 @@
+node f (x:b1, y:b1) returns (a:b1, b:b1, c:b1) let c = x & y; b = c ^ x; a = ~b tel

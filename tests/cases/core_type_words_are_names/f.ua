@@ -1,0 +1,1 @@
+node b1 (b1:b1, u8x4:b1) returns (v3:b1) let v3 = b1 & u8x4 tel

@@ -1,0 +1,1 @@
+node f (x:u1x1, y:b1) returns (z:u1x1) let z = x & y tel

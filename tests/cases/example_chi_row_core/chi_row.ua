@@ -1,0 +1,1 @@
+../../../examples/chi_row.ua

@@ -1,0 +1,1 @@
+../../../examples/full_adder.ua

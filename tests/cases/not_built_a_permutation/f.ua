@@ -1,0 +1,1 @@
+perm P (x:b2) returns (y:b2) {2, 1}

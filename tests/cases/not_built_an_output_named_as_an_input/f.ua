@@ -1,0 +1,1 @@
+node f (x:b1, y:b1) returns (x:b1) let x = y tel

@@ -1,0 +1,1 @@
+node f (x:b1, y:b1) returns (z:b1) let z = 18446744073709551615 ^ 0xffffffffffffffff ^ 0xFfFfFfFfFfFfFfFf ^ 0000000000000000000000018446744073709551615 tel

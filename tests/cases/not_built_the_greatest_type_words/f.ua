@@ -1,0 +1,1 @@
+node f (x:u64x4294967295, y:v4294967295, w:b4294967295) returns (z:b1) let z = x tel

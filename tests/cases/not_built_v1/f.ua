@@ -1,0 +1,1 @@
+node f (x:v1, y:b1) returns (z:b1) let z = y tel

@@ -1,0 +1,1 @@
+node f (x:b1, y:b1) returns (z:b1) vars a:b1, b:b1 let a = y & x; b = y & x; z = (x & y) ^ b tel

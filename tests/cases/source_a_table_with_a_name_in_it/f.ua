@@ -1,0 +1,1 @@
+table T (x:v2) returns (z:v1) {1, a}

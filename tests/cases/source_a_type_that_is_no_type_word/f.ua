@@ -1,0 +1,1 @@
+node f (x:w8) returns (z:b1) let z = x tel

@@ -1,0 +1,1 @@
+node f () returns (z:b1) let tel

@@ -1,0 +1,1 @@
+node f (x:b1) (z:b1) let z = x tel

@@ -1,0 +1,1 @@
+node f (x:b1) returns (y:b1, z:b1) let y = x z = x tel

@@ -1,0 +1,1 @@
+node f (x:b18446744073709551617) returns (z:b1) let z = x tel

@@ -1,0 +1,1 @@
+node f (x:b1x2) returns (z:b1) let z = x tel

@@ -1,0 +1,1 @@
+node f (x:u08) returns (z:b1) let z = x tel

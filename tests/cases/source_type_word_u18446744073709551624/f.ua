@@ -1,0 +1,1 @@
+node f (x:u18446744073709551624) returns (z:b1) let z = x tel

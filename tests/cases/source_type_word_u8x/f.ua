@@ -1,0 +1,1 @@
+node f (x:u8x) returns (z:b1) let z = x tel

@@ -1,0 +1,1 @@
+node f (x:u8x4294967296) returns (z:b1) let z = x tel

@@ -1,0 +1,1 @@
+node f (x:ux4) returns (z:b1) let z = x tel

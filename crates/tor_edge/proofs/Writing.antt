@@ -51,7 +51,7 @@ module _ {S : Type 0} {faults : S → ℕ} {written : S → Option (List ℕ)} w
     never_falls = omega (arith, first.never_falls, more.never_falls);
     whole = on_ok_weaker q (λ e. e ∙ ap (λ (o : Option (List ℕ)). appended o rest) first.whole ∙ appended-append (written old) a rest) more.whole;
     ok_keeps_count = on_ok_weaker q (λ e. e ∙ first.ok_keeps_count) more.ok_keeps_count;
-    failed = on_err_weaker q (λ e. omega (arith, e, first.ok_keeps_count)) more.failed;
+    failed = on_err_weaker q (λ rose. (omega (arith, rose.0, first.ok_keeps_count), rose.1)) more.failed;
     prefix = on_err_weaker q (λ p. after_text (written old) (written mid) (written new) a rest first.whole p) more.prefix;
   }
 

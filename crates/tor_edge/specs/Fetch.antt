@@ -1,5 +1,5 @@
 -- What a fetch of a file answers, and what it leaves.
-use Rattle.std.specs.Prelude.{ℕ, ◌<◌, List, length, Option, None, Some, Result, Ok, Err}
+use Rattle.std.specs.Prelude.{◌≡◌, ◌⊎◌, ℕ, ◌<◌, List, [], ◌∷◌, ◌++◌, length, Option, None, Some, Result, Ok, Err}
 use Rattle.tor_edge.specs.declared.files.FetchFault.{FetchFault}
 use Rattle.tor_edge.specs.declared.files.FetchFault.TheVariants.{Failed, TooLong, Memory}
 use Rattle.tor_edge.specs.declared.files.Reason.TheVariants.{Failed as by_a_fault, TooLong as by_its_length}
@@ -45,9 +45,18 @@ abbrev pub IsLongerThan : ℕ → Option (List ℕ) → Type 0
 IsLongerThan limit None = ⊥
 IsLongerThan limit (Some bytes) = limit < length bytes
 
--- the last refused fetch after a fetch of this name: the fetch itself where it was refused by a fault or for the file's length, and else the one before
+-- the last refused fetch after a fetch of this name: the fetch itself where it was refused by a fault or for the
+-- file's length, and else the one before
 abbrev pub refused_after : {T : Type 0} → Option Refusal → List ℕ → Result T FetchFault → Option Refusal
 refused_after before name (Err Failed) = Some (record { name = name; reason = by_a_fault })
 refused_after before name (Err TooLong) = Some (record { name = name; reason = by_its_length })
 refused_after before name (Err (Memory error)) = before
 refused_after before name (Ok file) = before
+
+-- before and now are the names that were fetched before and after a fetch of this name: it stands last, however the
+-- fetch ended; only where memory was wanting the fetch may not have begun
+abbrev pub IsFetchedNext : {T : Type 0} → List (List ℕ) → List (List ℕ) → List ℕ → Result T FetchFault → Type 0
+IsFetchedNext before now name (Err Failed) = now ≡ before ++ name ∷ []
+IsFetchedNext before now name (Err TooLong) = now ≡ before ++ name ∷ []
+IsFetchedNext before now name (Err (Memory error)) = (now ≡ before) ⊎ (now ≡ before ++ name ∷ [])
+IsFetchedNext before now name (Ok file) = now ≡ before ++ name ∷ []

@@ -1,10 +1,11 @@
 -- Calls that are made to fail, and what a sink in memory keeps.
-use Rattle.std.specs.Prelude.{ℕ, ◌+◌, ◌-◌, ◌^◌, ◌≤◌, ◌==◌, List, Option, None, Some, find, min}
+use Rattle.std.specs.Prelude.{ℕ, ◌+◌, ◌≤◌, ◌==◌, List, Option, None, Some, find, min}
+use Rattle.tor_edge.specs.Count.{last_count}
 use Rattle.tor_edge.specs.declared.mem_sink.Trip.{Trip}
 
 -- how many calls were made after one more; the count stays at its last value
 abbrev pub one_more : ℕ → ℕ
-one_more calls = min (calls + 1) (2 ^ 64 - 1)
+one_more calls = min (calls + 1) last_count
 
 -- the first trip for the call of this number, if there is one
 abbrev pub trip_of : List Trip → ℕ → Option Trip

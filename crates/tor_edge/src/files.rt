@@ -1,6 +1,6 @@
 ghost use Rattle.std.specs.Prelude.{◌≡◌, ℕ, ◌<◌, ◌≤◌, ◌↔◌, List, Option, None, Some, length, IfSome, IfOk, IsErrOf};
 ghost use Rattle.tor_edge.specs.Count.{Rose};
-ghost use Rattle.tor_edge.specs.Fetch.{OnFailed, OnTooLong, OnOkOrTooLong, OnOkOrMemory, IsFailedOrMemory, IsLongerThan, refused_after};
+ghost use Rattle.tor_edge.specs.Fetch.{OnFailed, OnTooLong, OnOkOrTooLong, OnOkOrMemory, IsFailedOrMemory, IsLongerThan, refused_after, IsFetchedNext};
 ghost use Rattle.tor_edge.specs.declared.files.Refusal.{Refusal};
 ghost use Rattle.tor_edge.specs.declared.files.FetchFault.TheVariants.{Memory};
 
@@ -10,6 +10,11 @@ use thiserror::Error;
 
 /// The most bytes that a fetched file may have.
 pub const MAX_FILE_BYTES: usize = 1_048_576;
+
+/// The value of each limit, since a clause that only names a limit holds whatever its value is.
+pub fn limits()
+    ensures { MAX_FILE_BYTES ≡ 1048576 }
+{}
 
 /// Where a program reads its files, each by its name.
 pub trait Files {
@@ -21,6 +26,9 @@ pub trait Files {
 
     // The last fetch that was refused by a fault or for its file's length.
     ghost refused: { Self → Option Refusal };
+
+    // The names that were fetched so far, in order.
+    ghost fetched: { Self → List (List ℕ) };
 
     // The bytes of each name's file, where the contents are told.
     ghost contents: { Self → Option (List ℕ → Option (List ℕ)) };
@@ -41,6 +49,7 @@ pub trait Files {
         ensures within { IfOk result (λ bytes. length bytes ≤ MAX_FILE_BYTES) }
         ensures told { IfOk result (λ bytes. IfSome (contents self.old) (λ file. file name.now ≡ Some bytes)) }
 
+        ensures fetched_next { IsFetchedNext (fetched self.old) (fetched self.new) name.now result }
         ensures last_refused { refused self.new ≡ refused_after (refused self.old) name.now result }
         ensures faults_stay { OnOkOrMemory result (faults self.new ≡ faults self.old) }
         ensures too_long_stays { OnOkOrMemory result (too_long self.new ≡ too_long self.old) };

@@ -2,6 +2,7 @@
 #![tactic(auto)]
 
 mod draft;
+mod fetches;
 mod files;
 mod mem_files;
 mod mem_sink;
@@ -10,11 +11,10 @@ mod os_files;
 mod os_sink;
 mod place;
 mod put;
-mod refusals;
 mod sink;
 
 pub use draft::Draft;
-pub use files::{FetchFault, Files, MAX_FILE_BYTES, Reason, Refusal};
+pub use files::{FetchFault, Files, MAX_FILE_BYTES, Reason, Refusal, limits};
 pub use mem_files::{Held, MemFiles};
 pub use mem_sink::{MemSink, Trip};
 pub use name::Name;
@@ -24,6 +24,3 @@ pub use place::Place;
 pub use put::{Piece, put_bytes, put_number, put_pieces, put_text};
 pub use sink::{PutFault, Sink};
 pub use sqlite_items::{Boxed, Items as List};
-
-#[cfg(test)]
-mod tests;

@@ -1,12 +1,12 @@
-ghost use Rattle.std.specs.Prelude.{◌≡◌, ◌≤◌, ◌↔◌, ◌⊎◌, None, Some, length, Contains, IfSome, IfOk, IsErrOf};
-ghost use Rattle.std.specs.Option.{option_copied};
+ghost use Rattle.std.specs.Prelude.{◌≡◌, ◌≤◌, ◌↔◌, ◌⊎◌, [], None, Some, length, Contains, IfSome, IfOk, IsErrOf};
+ghost use Rattle.std.specs.Option.{option_copied, unwrap_or};
 ghost use Rattle.tor_edge.specs.Count.{Rose};
-ghost use Rattle.tor_edge.specs.Fetch.{OnFailed, OnTooLong, OnOkOrTooLong, OnOkOrMemory, IsFailedOrMemory, IsLongerThan, refused_after};
+ghost use Rattle.tor_edge.specs.Fetch.{OnFailed, OnTooLong, OnOkOrTooLong, OnOkOrMemory, IsFailedOrMemory, IsLongerThan, refused_after, IsFetchedNext};
 ghost use Rattle.tor_edge.specs.Held.{file_of};
 ghost use Rattle.tor_edge.specs.Trips.{one_more};
 ghost use Rattle.tor_edge.specs.declared.files.FetchFault.TheVariants.{Failed};
 
-use crate::refusals::Refusals;
+use crate::fetches::Fetches;
 use crate::{FetchFault, Files, List, MAX_FILE_BYTES, Name};
 use std::alloc::Global;
 
@@ -23,7 +23,7 @@ pub struct MemFiles {
     held: List<Held>,
     trips: List<u64>,
     calls: u64,
-    refusals: Refusals,
+    fetches: Fetches,
 }
 
 impl MemFiles {
@@ -32,6 +32,7 @@ impl MemFiles {
         ensures contents { ⟦<MemFiles as Files>⟧.contents result ≡ Some (file_of held) }
         ensures faults { ⟦<MemFiles as Files>⟧.faults result ≡ 0 }
         ensures too_long { ⟦<MemFiles as Files>⟧.too_long result ≡ 0 }
+        ensures fetched { ⟦<MemFiles as Files>⟧.fetched result ≡ [] }
         ensures refused { ⟦<MemFiles as Files>⟧.refused result ≡ None }
         ensures held { result.held ≡ held }
         ensures trips { result.trips ≡ trips }
@@ -41,17 +42,19 @@ impl MemFiles {
             held,
             trips,
             calls: 0,
-            refusals: Refusals::new(),
+            fetches: Fetches::new(),
         }
     }
 }
 
 impl Files for MemFiles {
-    ghost faults = { λ files. files.refusals.faults };
+    ghost faults = { λ files. files.fetches.faults };
 
-    ghost too_long = { λ files. files.refusals.too_long };
+    ghost too_long = { λ files. files.fetches.too_long };
 
-    ghost refused = { λ files. files.refusals.last };
+    ghost refused = { λ files. files.fetches.refused };
+
+    ghost fetched = { λ files. unwrap_or files.fetches.names [] };
 
     ghost contents = { λ files. Some (file_of files.held) };
 
@@ -66,6 +69,7 @@ impl Files for MemFiles {
             OnOkOrTooLong result (IsErrOf result FetchFault.TooLong ↔ IsLongerThan MAX_FILE_BYTES (file name.now))) }
         ensures within { IfOk result (λ bytes. length bytes ≤ MAX_FILE_BYTES) }
         ensures told { IfOk result (λ bytes. IfSome (⟦<MemFiles as Files>⟧.contents self.old) (λ file. file name.now ≡ Some bytes)) }
+        ensures fetched_next { IsFetchedNext (⟦<MemFiles as Files>⟧.fetched self.old) (⟦<MemFiles as Files>⟧.fetched self.new) name.now result }
         ensures last_refused { ⟦<MemFiles as Files>⟧.refused self.new ≡ refused_after (⟦<MemFiles as Files>⟧.refused self.old) name.now result }
         ensures faults_stay { OnOkOrMemory result (⟦<MemFiles as Files>⟧.faults self.new ≡ ⟦<MemFiles as Files>⟧.faults self.old) }
         ensures too_long_stays { OnOkOrMemory result (⟦<MemFiles as Files>⟧.too_long self.new ≡ ⟦<MemFiles as Files>⟧.too_long self.old) }
@@ -79,7 +83,7 @@ impl Files for MemFiles {
     {
         let call = self.calls;
         self.calls = call.saturating_add(1);
-        let asked = Name::of(alloc, name)?;
+        let asked = self.fetches.begin(alloc, name)?;
         let answer = answer(
             alloc,
             self.held.as_slice(),
@@ -87,7 +91,7 @@ impl Files for MemFiles {
             call,
             name,
         );
-        self.refusals.note(asked, &answer);
+        self.fetches.end(asked, &answer);
         answer
     }
 }

@@ -1,7 +1,8 @@
-ghost use Rattle.std.specs.Prelude.{◌≡◌, ◌<◌, ◌≤◌, None, length, IfOk, IfSome};
+ghost use Rattle.std.specs.Prelude.{◌≡◌, ◌<◌, ◌≤◌, [], None, length, IfOk, IfSome};
+ghost use Rattle.std.specs.Option.{unwrap_or};
 ghost use Rattle.tor_edge.specs.Fetch.{OnTooLong};
 
-use crate::refusals::Refusals;
+use crate::fetches::Fetches;
 use crate::{FetchFault, Files, List, MAX_FILE_BYTES, Name};
 use std::alloc::Global;
 use std::io::{Input, Read};
@@ -17,7 +18,7 @@ const CHUNK: usize = 16_384;
 #[derive(Debug, Drop)]
 pub struct OsFiles<R> {
     runtime: R,
-    refusals: Refusals,
+    fetches: Fetches,
 }
 
 impl<R: rt::Files + Input> OsFiles<R> {
@@ -25,28 +26,31 @@ impl<R: rt::Files + Input> OsFiles<R> {
         ensures contents { ⟦<OsFiles<R> as Files>⟧.contents result ≡ None }
         ensures faults { ⟦<OsFiles<R> as Files>⟧.faults result ≡ 0 }
         ensures too_long { ⟦<OsFiles<R> as Files>⟧.too_long result ≡ 0 }
+        ensures fetched { ⟦<OsFiles<R> as Files>⟧.fetched result ≡ [] }
         ensures refused { ⟦<OsFiles<R> as Files>⟧.refused result ≡ None }
     {
         OsFiles {
             runtime,
-            refusals: Refusals::new(),
+            fetches: Fetches::new(),
         }
     }
 }
 
 impl<R: rt::Files + Input> Files for OsFiles<R> {
-    ghost faults = { λ files. files.refusals.faults };
+    ghost faults = { λ files. files.fetches.faults };
 
-    ghost too_long = { λ files. files.refusals.too_long };
+    ghost too_long = { λ files. files.fetches.too_long };
 
-    ghost refused = { λ files. files.refusals.last };
+    ghost refused = { λ files. files.fetches.refused };
+
+    ghost fetched = { λ files. unwrap_or files.fetches.names [] };
 
     ghost contents = { λ _. None };
 
     fn fetch(&mut self, alloc: Global, name: &str) -> Result<List<u8>, FetchFault> {
-        let asked = Name::of(alloc, name)?;
+        let asked = self.fetches.begin(alloc, name)?;
         let answer = read_named(alloc, &self.runtime, name);
-        self.refusals.note(asked, &answer);
+        self.fetches.end(asked, &answer);
         answer
     }
 }

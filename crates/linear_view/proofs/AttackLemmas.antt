@@ -1,5 +1,5 @@
 -- A circuit's attacks over named columns are those over the numbers of its columns.
-use Rattle.std.proofs.Common.{◌≡◌, ℕ, zero, suc, ◌+◌, ◌-◌, ◌%◌, ◌<◌, ◌≤◌, ◌==◌, Bool, true, false, not, ◌||◌, List, [], ◌∷◌, ◌++◌, length, map, flat_map, get_or, Option, None, Some, option_map, Contains, refl, sym, ap, ◌∙◌, subst, arith, true≢false, ◌⊎◌, inl, inr, if◌then◌else◌, nat_lt}
+use Rattle.std.proofs.Common.{◌≡◌, ℕ, zero, suc, ◌+◌, ◌-◌, ◌%◌, ◌<◌, ◌≤◌, ◌==◌, Bool, true, false, not, ◌&&◌, ◌||◌, List, [], ◌∷◌, ◌++◌, length, map, flat_map, get_or, Option, None, Some, option_map, Contains, refl, sym, ap, ◌∙◌, subst, arith, true≢false, ◌⊎◌, inl, inr, if◌then◌else◌, nat_lt}
 use Rattle.std.specs.Bool.{beq}
 use Rattle.std.specs.Int.{bit_at}
 use Rattle.std.specs.List.{slice_get, list_any, AllByRecursion, range_with_len}
@@ -22,14 +22,12 @@ use Rattle.linear_view.specs.declared.column.ColumnKind.TheVariants as column
 use Rattle.linear_view.specs.Names.{same_column, own_columns, input_columns, gate_columns, equation_columns, core_columns}
 use Rattle.linear_view.specs.Rows.{Rows, RegisterRows, rows_at, row_at, rows_over, operands_over, only, own_row, gate_row, gate_rows, input_rows, rows_after, core_rows, gate_product, core_products, core_view}
 use Rattle.linear_view.specs.View as view
-use Rattle.linear_view.specs.AttackLaw.{HoldsCoreColumns, numbered, AttacksAreTheViews}
+use Rattle.linear_view.specs.AttackLaw.{HoldsCoreColumns, numbered, set_in, named, AttacksAreTheViews}
 use Rattle.linear_view.proofs.NameLemmas.{same_column-itself, same_column-same}
+use Rattle.linear_view.proofs.ColumnLemmas.{IsAbsent}
+use Rattle.linear_view.proofs.ApartLemmas.{IsPresent, AreApart, apart_core}
 
 -- ---- columns of the names
-
--- a name is among the names
-abbrev IsPresent : Column → List Column → Type 0
-IsPresent name names = list_any (same_column name) names ≡ true
 
 present_left : (name : Column) (xs ys : List Column) → IsPresent name xs → IsPresent name (xs ++ ys)
 present_left name xs ys h =
@@ -277,7 +275,7 @@ names_of_products names (product ∷ products) within =
     ∙ ap (λ (r : Rows). both product.left r) (names_of_rows names product.right within.0.1)
     ∙ ap (λ (l : List (Product Column)). product ∷ l) (names_of_products names products within.1)
 
--- ---- the law
+-- ---- attacks
 
 to_numbers : (core : Circuit) (t : ℕ) (leak : Columns Column) (probes : List Probe) → IsAttack (core_products core) t leak probes
     → IsAttack (view.products_of (core_view core)) t (numbered core leak) probes
@@ -317,6 +315,93 @@ to_names_again core t set probes holds attack =
     subst (λ (l : Columns Column). IsAttack (core_products core) t l probes) (by_name (core_columns core) set (holds_within core set holds))
     (to_names core t (numbered core set) probes attack)
 
+-- ---- rows of bits
+
+-- a column of the set that a row makes is one of the columns
+in_columns : (names : List Column) (row : List Bool) (column : Column) → set_in names row column ≡ true → Contains names column
+in_columns [] row column there = absurd (true≢false (sym there))
+in_columns (name ∷ names) [] column there = absurd (true≢false (sym there))
+in_columns (name ∷ names) (bit ∷ row) column there =
+    by bit (same_column name column) refl there (in_columns names row column)
+  where
+    behind : Contains names column → Contains (name ∷ names) column
+    behind more = (suc more.0, omega (arith, more.1), more.2)
+
+    by : (b c : Bool) → same_column name column ≡ c → ((b && c) || set_in names row column) ≡ true
+        → (set_in names row column ≡ true → Contains names column) → Contains (name ∷ names) column
+    by true true e there rest = (0, omega arith, same_column-same name column e)
+    by true false e there rest = behind (rest there)
+    by false c e there rest = behind (rest there)
+
+-- a column that is none of the columns is not in the set
+not_in : (names : List Column) (row : List Bool) (column : Column) → IsAbsent column names → set_in names row column ≡ false
+not_in names row column absent = by (set_in names row column) refl
+  where
+    by : (b : Bool) → set_in names row column ≡ b → set_in names row column ≡ false
+    by false e = e
+    by true e =
+        let there = in_columns names row column e in
+        absurd
+        (true≢false
+        (sym
+        (any_passes_from_place (same_column column) names there.0 column
+        (slice_get-get_or names there.0 column there.1 ∙ ap (λ (x : Column). Some x) there.2) (same_column-itself column))
+        ∙ absent))
+
+-- a column before the others does not change their bits
+bits_behind : (name : Column) (bit : Bool) (row : List Bool) (names more : List Column) → IsAbsent name more
+    → map (set_in (name ∷ names) (bit ∷ row)) more ≡ map (set_in names row) more
+bits_behind name bit row names [] absent = refl
+bits_behind name bit row names (column ∷ more) absent =
+    let both = none_of_two (same_column name column) (list_any (same_column name) more) absent in
+    cons_same (first bit (same_column name column) both.0) (bits_behind name bit row names more both.1)
+  where
+    none_of_two : (x y : Bool) → (x || y) ≡ false → (x ≡ false) × (y ≡ false)
+    none_of_two true y e = absurd (cc)
+    none_of_two false y e = (refl, e)
+
+    first : (b c : Bool) → c ≡ false → ((b && c) || set_in names row column) ≡ set_in names row column
+    first true true e = absurd (true≢false e)
+    first true false e = refl
+    first false c e = refl
+
+    cons_same : {b c : Bool} {bs cs : List Bool} → b ≡ c → bs ≡ cs → b ∷ bs ≡ c ∷ cs
+    cons_same p q = cc
+
+-- the bits of the set that a row makes are the row
+bits_again : (names : List Column) (row : List Bool) → AreApart names → length row ≡ length names → map (set_in names row) names ≡ row
+bits_again [] [] apart e = refl
+bits_again [] (bit ∷ row) apart e = absurd (omega arith)
+bits_again (name ∷ names) [] apart e = absurd (omega arith)
+bits_again (name ∷ names) (bit ∷ row) apart e =
+    cons_same (first bit (same_column name name) (same_column-itself name) (not_in names row name apart.0))
+    (bits_behind name bit row names names apart.0 ∙ bits_again names row apart.1 (omega arith))
+  where
+    first : (b c : Bool) → c ≡ true → set_in names row name ≡ false → ((b && c) || set_in names row name) ≡ b
+    first true true e absent = refl
+    first true false e absent = absurd (true≢false (sym e))
+    first false c e absent = absent
+
+    cons_same : {b c : Bool} {bs cs : List Bool} → b ≡ c → bs ≡ cs → b ∷ bs ≡ c ∷ cs
+    cons_same p q = cc
+
+row_again : (core : Circuit) (row : List Bool) → length row ≡ length (core_columns core) → numbered core (named core row) ≡ set_of row
+row_again core row e = ap set_of (bits_again (core_columns core) row (apart_core core) e)
+
+-- an attack on the core, with the set that a row makes, and one on the view, with the row
+row_to_numbers : (core : Circuit) (row : List Bool) → length row ≡ length (core_columns core) → (t : ℕ) (probes : List Probe)
+    → IsAttack (core_products core) t (named core row) probes → IsAttack (view.products_of (core_view core)) t (set_of row) probes
+row_to_numbers core row e t probes attack =
+    subst (λ (l : Columns ℕ). IsAttack (view.products_of (core_view core)) t l probes) (row_again core row e) (to_numbers core t (named core row) probes attack)
+
+row_to_names : (core : Circuit) (row : List Bool) → length row ≡ length (core_columns core) → (t : ℕ) (probes : List Probe)
+    → IsAttack (view.products_of (core_view core)) t (set_of row) probes → IsAttack (core_products core) t (named core row) probes
+row_to_names core row e t probes attack =
+    to_names_again core t (named core row) probes (in_columns (core_columns core) row)
+    (subst (λ (l : Columns ℕ). IsAttack (view.products_of (core_view core)) t l probes) (sym (row_again core row e)) attack)
+
+-- ---- the law
+
 pub attacks_are_the_views : AttacksAreTheViews
 attacks_are_the_views =
     record {
@@ -331,4 +416,11 @@ attacks_are_the_views =
             λ leak. (leak.0, leak.1, to_names_again core leak.0 set leak.1 holds leak.2),
           );
       probes = λ core is set holds t probes. (to_numbers core t set probes, to_names_again core t set probes holds);
+      row = λ core is row e. (in_columns (core_columns core) row, row_again core row e);
+      row_leak =
+          λ core is row e. (
+            λ leak. (leak.0, leak.1, row_to_numbers core row e leak.0 leak.1 leak.2),
+            λ leak. (leak.0, leak.1, row_to_names core row e leak.0 leak.1 leak.2),
+          );
+      row_probes = λ core is row e t probes. (row_to_numbers core row e t probes, row_to_names core row e t probes);
     }

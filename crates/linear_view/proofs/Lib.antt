@@ -1,6 +1,7 @@
 pub mod TextLemmas
 pub mod NameLemmas
 pub mod ColumnLemmas
+pub mod ApartLemmas
 pub mod WalkLemmas
 pub mod RowLemmas
 pub mod CoreLemmas

@@ -16,8 +16,9 @@ use Rattle.linear_view.specs.declared.column.ColumnKind.{ColumnKind}
 use Rattle.linear_view.specs.declared.column.ColumnKind.TheVariants as column
 use Rattle.linear_view.specs.Names.{own_columns, input_columns, gate_columns, equation_columns, core_columns}
 use Rattle.linear_view.specs.Rows.{Rows, RegisterRows, rows_at, rows_over, operands_over, gate_rows, gate_row, input_rows, rows_after, core_rows, gate_product, core_products, core_view}
+use Rattle.linear_view.specs.CoreViewLaw.{HaveRows, CoreViewSize}
 use Rattle.linear_view.specs.View.{Operands, LinearView, AreOperands, IsSmallName, IsView}
-use Rattle.linear_view.specs.Walk.{AreOnce}
+use Rattle.linear_view.proofs.ApartLemmas.{apart_core, once_from_apart}
 use Rattle.linear_view.proofs.ColumnLemmas.{products_of-cons, refreshes_of-cons}
 use Rattle.linear_view.proofs.CoreLemmas.{all_rows, input_registers, length-all_rows}
 
@@ -130,21 +131,31 @@ operands_are names w left right some el er =
       right_columns = all_columns names right;
     }
 
-products_are : (names : List Column) (w m : ℕ) (all : RegisterRows) (gs : List Gate) → 0 < w → ((r : ℕ) → r < m + length gs → length (get_or all r []) ≡ w)
-    → AreEquations w m gs → AllByRecursion (AreOperands (length names)) (map (operands_over names) (flat_map (gate_product all) gs))
-products_are names w m all [] some wide are = tt
-products_are names w m all (gate.Const c ∷ gs) some wide are = products_are names w (suc m) all gs some (λ r h. wide r (omega arith)) are.1
-products_are names w m all (gate.Xor a b ∷ gs) some wide are = products_are names w (suc m) all gs some (λ r h. wide r (omega arith)) are.1
-products_are names w m all (gate.Not a ∷ gs) some wide are = products_are names w (suc m) all gs some (λ r h. wide r (omega arith)) are.1
-products_are names w m all (gate.Mask c a ∷ gs) some wide are = products_are names w (suc m) all gs some (λ r h. wide r (omega arith)) are.1
-products_are names w m all (gate.And a b ∷ gs) some wide are = (
-  operands_are names w (rows_at all a) (rows_at all b) some (wide a.0 (omega (arith, are.0.0))) (wide b.0 (omega (arith, are.0.1))),
-  products_are names w (suc m) all gs some (λ r h. wide r (omega arith)) are.1,
+-- what holds of the operands of each product whose registers there are holds of all the products
+each_product : (P : Operands → Type 0) (names : List Column) (w m : ℕ) (all : RegisterRows) (gs : List Gate)
+    → ((a b : Reg) → a.0 < m + length gs → b.0 < m + length gs → P (operands_over names (record { left = rows_at all a; right = rows_at all b })))
+    → AreEquations w m gs → AllByRecursion P (map (operands_over names) (flat_map (gate_product all) gs))
+each_product P names w m all [] each are = tt
+each_product P names w m all (gate.Const c ∷ gs) each are = each_product P names w (suc m) all gs (λ a b h k. each a b (omega arith) (omega arith)) are.1
+each_product P names w m all (gate.Xor x y ∷ gs) each are = each_product P names w (suc m) all gs (λ a b h k. each a b (omega arith) (omega arith)) are.1
+each_product P names w m all (gate.Not x ∷ gs) each are = each_product P names w (suc m) all gs (λ a b h k. each a b (omega arith) (omega arith)) are.1
+each_product P names w m all (gate.Mask c x ∷ gs) each are = each_product P names w (suc m) all gs (λ a b h k. each a b (omega arith) (omega arith)) are.1
+each_product P names w m all (gate.And x y ∷ gs) each are = (
+  each x y (omega (arith, are.0.0)) (omega (arith, are.0.1)),
+  each_product P names w (suc m) all gs (λ a b h k. each a b (omega arith) (omega arith)) are.1,
 )
-products_are names w m all (gate.Shl k a ∷ gs) some wide are = products_are names w (suc m) all gs some (λ r h. wide r (omega arith)) are.1
-products_are names w m all (gate.Shr k a ∷ gs) some wide are = products_are names w (suc m) all gs some (λ r h. wide r (omega arith)) are.1
-products_are names w m all (gate.Rotl k a ∷ gs) some wide are = products_are names w (suc m) all gs some (λ r h. wide r (omega arith)) are.1
-products_are names w m all (gate.Refresh a ∷ gs) some wide are = products_are names w (suc m) all gs some (λ r h. wide r (omega arith)) are.1
+each_product P names w m all (gate.Shl k x ∷ gs) each are = each_product P names w (suc m) all gs (λ a b h k. each a b (omega arith) (omega arith)) are.1
+each_product P names w m all (gate.Shr k x ∷ gs) each are = each_product P names w (suc m) all gs (λ a b h k. each a b (omega arith) (omega arith)) are.1
+each_product P names w m all (gate.Rotl k x ∷ gs) each are = each_product P names w (suc m) all gs (λ a b h k. each a b (omega arith) (omega arith)) are.1
+each_product P names w m all (gate.Refresh x ∷ gs) each are = each_product P names w (suc m) all gs (λ a b h k. each a b (omega arith) (omega arith)) are.1
+
+products_are : (names : List Column) (core : Circuit) → IsCore core
+    → AllByRecursion (AreOperands (length names)) (map (operands_over names) (core_products core))
+products_are names core is =
+    let all = core_rows core in
+    let wide = all_rows-width core.width core.inputs core.equations in
+    each_product (AreOperands (length names)) names core.width core.inputs all core.equations
+    (λ a b h k. operands_are names core.width (rows_at all a) (rows_at all b) is.some_width (wide a.0 h) (wide b.0 k)) is.equations
 
 products_many : (names : List Column) (all : RegisterRows) (gs : List Gate) → length (map (operands_over names) (flat_map (gate_product all) gs)) ≡ products_of gs
 products_many names all [] = refl
@@ -157,6 +168,25 @@ products_many names all (gate.Shl k a ∷ gs) = products_many names all gs
 products_many names all (gate.Shr k a ∷ gs) = products_many names all gs
 products_many names all (gate.Rotl k a ∷ gs) = products_many names all gs
 products_many names all (gate.Refresh a ∷ gs) = products_many names all gs
+
+-- how large the view of a core is
+pub core_view_size : CoreViewSize
+core_view_size =
+    record {
+      columns = length-core_columns;
+      products = λ core. products_many (core_columns core) (core_rows core) core.equations;
+      rows = λ core is. all_from_each (HaveRows core.width) (core_view core).products (rows_are (core_columns core) core is);
+    }
+  where
+    rows_are : (names : List Column) (core : Circuit) → IsCore core → AllByRecursion (HaveRows core.width) (map (operands_over names) (core_products core))
+    rows_are names core is =
+        let all = core_rows core in
+        let over : Columns Column → List Bool = λ set. map set names in
+        let wide = all_rows-width core.width core.inputs core.equations in
+        each_product (HaveRows core.width) names core.width core.inputs all core.equations
+        (λ a b h k.
+        record { left = length-map (rows_at all a) over ∙ wide a.0 h; right = length-map (rows_at all b) over ∙ wide b.0 k })
+        is.equations
 
 -- ---- the names
 
@@ -199,8 +229,8 @@ small_core core wide few =
 -- the view of a circuit within the limits is one
 pub core_view_is : (core : Circuit) → IsCore core
     → (core.inputs + products_of core.equations + refreshes_of core.equations) * core.width ≤ 32768
-    → AreOnce (core_columns core) → IsView (core_view core)
-core_view_is core is few once =
+    → IsView (core_view core)
+core_view_is core is few =
     let w = core.width in
     let names = core_columns core in
     let all = core_rows core in
@@ -211,20 +241,20 @@ core_view_is core is few once =
       columns_fit = omega (arith, length-core_columns core, few);
       products_fit = omega (arith, products_many names all core.equations, least, few);
       small_names = small_core core is.width_fits (omega (arith, least, few));
-      names_differ = once;
+      names_differ = once_from_apart names (apart_core core);
       operands =
           all_from_each (AreOperands (length names)) (core_view core).products
-          (products_are names w core.inputs all core.equations is.some_width (all_rows-width w core.inputs core.equations) is.equations);
+          (products_are names core is);
     }
 
 pub view_is : (core : Circuit) (columns : List Column) (products : List Operands) → IsCore core
     → (core.inputs + products_of core.equations + refreshes_of core.equations) * core.width ≤ 32768
-    → columns ≡ core_columns core → AreOnce columns → products ≡ (core_view core).products → IsView (record { columns = columns; products = products })
-view_is core columns products is few ec once ep =
+    → columns ≡ core_columns core → products ≡ (core_view core).products → IsView (record { columns = columns; products = products })
+view_is core columns products is few ec ep =
     let same : (let view : LinearView = record { columns = columns; products = products } in view ≡ core_view core) =
     ap (λ (c : List Column). let view : LinearView = record { columns = c; products = products } in view) ec
     ∙ ap (λ (p : List Operands). let view : LinearView = record { columns = core_columns core; products = p } in view) ep in
-    subst (λ (view : LinearView). IsView view) (sym same) (core_view_is core is few (subst (λ (c : List Column). AreOnce c) ec once))
+    subst (λ (view : LinearView). IsView view) (sym same) (core_view_is core is few)
 
 -- ---- the products in order
 

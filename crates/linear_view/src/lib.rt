@@ -1,9 +1,9 @@
 //! The rows of the operands of a circuit's products, over columns for the bits of its inputs, products and refreshes.
 #![tactic(auto)]
 
-mod attacks;
 mod column;
 mod core_view;
+mod laws;
 mod names;
 mod operand;
 mod rows;
@@ -11,9 +11,9 @@ mod text;
 mod view;
 mod walk;
 
-pub use attacks::attacks_are_the_views;
 pub use column::{Column, ColumnKind};
 pub use core_view::{rows_of, view_of};
+pub use laws::{attacks_are_the_views, core_view_size};
 pub use operand::{Operand, Side};
 pub use text::write_rows;
 pub use view::{View, view_with};

@@ -1,7 +1,7 @@
 // The columns of a circuit, in order.
 ghost use Rattle.std.specs.Prelude.{◌≡◌, ◌+◌, ◌<◌, ◌^◌, ◌++◌, length, IfOk, OnOk, [], ◌∷◌};
 ghost use Rattle.linear_view.specs.Names.{own_columns, input_columns, gate_columns, equation_columns};
-ghost use Rattle.linear_view.specs.Walk.{IsNewName, AreOnce};
+ghost use Rattle.linear_view.specs.Walk.{IsNewName};
 ghost use Rattle.linear_view.specs.declared.column.ColumnKind.TheVariants as column;
 
 use crate::column::{Column, ColumnKind};
@@ -18,8 +18,7 @@ pub(crate) fn columns_of(
     gates: &[Gate],
 ) -> Result<IndexSet<Column>, AllocError>
     requires { length gates.now < 2 ^ 32 }
-    ensures columns { IfOk result (λ columns. columns.keys ≡ input_columns width inputs ++ equation_columns width 0 0 gates.now) }
-    ensures once { IfOk result (λ columns. AreOnce columns.keys) }
+    ensures { IfOk result (λ columns. columns.keys ≡ input_columns width inputs ++ equation_columns width 0 0 gates.now) }
 {
     let mut columns = IndexSet::new(alloc);
     for number in 0..inputs {
@@ -41,9 +40,7 @@ fn add_gate_columns(
 ) -> Result<(), AllocError>
     requires product { IsNewName column.Product stage.products columns.old.keys }
     requires refresh { IsNewName column.Refresh stage.refreshes columns.old.keys }
-    requires once { AreOnce columns.old.keys }
-    ensures columns { OnOk result (columns.new.keys ≡ columns.old.keys ++ gate_columns stage.width stage.products stage.refreshes gate.now) }
-    ensures once { OnOk result (AreOnce columns.new.keys) }
+    ensures { OnOk result (columns.new.keys ≡ columns.old.keys ++ gate_columns stage.width stage.products stage.refreshes gate.now) }
 {
     match gate {
         Gate::And(_, _) => add_columns(columns, stage.width, ColumnKind::Product, stage.products),
@@ -59,10 +56,8 @@ fn add_columns(
     kind: ColumnKind,
     number: u32,
 ) -> Result<(), AllocError>
-    requires name { IsNewName kind number columns.old.keys }
-    requires once { AreOnce columns.old.keys }
-    ensures columns { OnOk result (columns.new.keys ≡ columns.old.keys ++ own_columns width kind number) }
-    ensures once { OnOk result (AreOnce columns.new.keys) }
+    requires { IsNewName kind number columns.old.keys }
+    ensures { OnOk result (columns.new.keys ≡ columns.old.keys ++ own_columns width kind number) }
 {
     for bit in 0..width {
         columns.insert(Column { kind, number, bit })?;

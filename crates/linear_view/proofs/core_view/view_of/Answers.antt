@@ -4,13 +4,13 @@ use Rattle.linear_view.proofs.core_view.view_of.Goals as goal
 
 pub product_operands-requires-clause-few_columns : goal.product_operands-requires-clause-few_columns
 product_operands-requires-clause-few_columns c =
-    let names = names_of_core c.args.core.now c.width.result c.inputs.result c.as_slice.result.now c.in_ok-columns.columns.keys c.in_ok-columns.ensures.columns
+    let names = names_of_core c.args.core.now c.width.result c.inputs.result c.as_slice.result.now c.in_ok-columns.columns.keys c.in_ok-columns.ensures
     c.width.ensures.value c.inputs.ensures (c.as_slice.ensures.value ∙ c.in_ok-gates.ensures) in
     omega (arith, ap length names, length-core_columns c.args.core.now, c.requires.columns)
 
 pub new-requires : goal.new-requires
 new-requires c =
     view_is c.args.core.now c.in_ok-columns.columns.keys c.in_ok-products.products.items c.width.ensures.core c.requires.columns
-    (names_of_core c.args.core.now c.width.result c.inputs.result c.as_slice.result.now c.in_ok-columns.columns.keys c.in_ok-columns.ensures.columns
+    (names_of_core c.args.core.now c.width.result c.inputs.result c.as_slice.result.now c.in_ok-columns.columns.keys c.in_ok-columns.ensures
     c.width.ensures.value c.inputs.ensures (c.as_slice.ensures.value ∙ c.in_ok-gates.ensures))
-    c.in_ok-columns.ensures.once c.in_ok-products.ensures
+    c.in_ok-products.ensures

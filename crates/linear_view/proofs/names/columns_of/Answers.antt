@@ -11,17 +11,13 @@ use Rattle.linear_view.specs.Names.{same_column, input_columns, equation_columns
 use Rattle.linear_view.proofs.ColumnLemmas.{new_input, no_input, new_product, new_refresh, absent-append, input_columns-more, columns_step, products_of-more, refreshes_of-more}
 use Rattle.linear_view.proofs.names.columns_of.Goals as goal
 
-pub add_columns-requires-clause-name : goal.add_columns-requires-clause-name
-add_columns-requires-clause-name c bit =
+pub add_columns-requires : goal.add_columns-requires
+add_columns-requires c bit =
     let name : Column = record { kind = Input; number = c.loop-number.number; bit = bit } in
-    ap (list_any (same_column name)) c.loop-number.invariant.columns ∙ new_input c.args.width c.loop-number.number bit
+    ap (list_any (same_column name)) c.loop-number.invariant ∙ new_input c.args.width c.loop-number.number bit
 
 pub loop-number-preserved : goal.loop-number-preserved
-loop-number-preserved c =
-    record {
-      columns = input_columns-more c.args.width c.loop-number.number _ _ c.loop-number.invariant.columns c.in_ok-add_columns.ensures.columns;
-      once = c.in_ok-add_columns.ensures.once;
-    }
+loop-number-preserved c = input_columns-more c.args.width c.loop-number.number _ _ c.loop-number.invariant c.in_ok-add_columns.ensures
 
 pub add_gate_columns-requires-clause-product : goal.add_gate_columns-requires-clause-product
 add_gate_columns-requires-clause-product c bit =
@@ -58,8 +54,7 @@ loop-gate-preserved c =
       columns =
           columns_step c.args.width c.args.inputs gs i (gate.Const 0) c.loop-gate.columns.keys _ c.loop-gate.stage.width c.loop-gate.stage.products c.loop-gate.stage.refreshes
           c.loop-gate-test.true c.loop-gate.invariant.columns c.loop-gate.invariant.width c.loop-gate.invariant.products c.loop-gate.invariant.refreshes
-          c.in_ok-add_gate_columns.ensures.columns;
-      once = c.in_ok-add_gate_columns.ensures.once;
+          c.in_ok-add_gate_columns.ensures;
       width = ap (λ s. s.width) c.after-stage.ensures ∙ c.loop-gate.invariant.width;
       equations = ap (λ s. s.equations) c.after-stage.ensures ∙ ap (λ (n : ℕ). n + 1) c.loop-gate.invariant.equations;
       products =

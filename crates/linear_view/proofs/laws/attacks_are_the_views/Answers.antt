@@ -1,5 +1,5 @@
 use Rattle.linear_view.proofs.AttackLemmas.{attacks_are_the_views}
-use Rattle.linear_view.proofs.attacks.attacks_are_the_views.Goals as goal
+use Rattle.linear_view.proofs.laws.attacks_are_the_views.Goals as goal
 
 pub returns : goal.returns
 returns c = attacks_are_the_views

@@ -1,0 +1,1 @@
+node tel' (in':b1, _inline_:b1) returns (tables:b1) let tables = in' & _inline_ tel

@@ -1,0 +1,1 @@
+node perm (x:b1) returns (z:b1) let z = x tel

@@ -1,0 +1,1 @@
+node table (x:b1) returns (z:b1) let z = x tel

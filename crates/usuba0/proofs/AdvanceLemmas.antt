@@ -9,8 +9,8 @@ use Rattle.usuba0.specs.declared.builder.Head.{Head}
 use Rattle.usuba0.specs.declared.builder.Head.TheVariants as head
 use Rattle.usuba0.specs.Term.{Term, Input}
 use Rattle.usuba0.specs.CoreOfTerms.{postorder, first_places, walk}
-use Rattle.usuba0.specs.Heads.{term_at, term_of_head, IsHead, IsBuilder}
-use Rattle.usuba0.specs.Walk.{all_terms, terms_in, unplaced, HasPlace, AreOperands, IsNextOperand, AllAmong, IsWalk, IsUnderWay, order_at_end, pending_walk, last_and_one, work}
+use Rattle.usuba0.specs.State.Heads.{term_at, term_of_head, IsHead, IsBuilder}
+use Rattle.usuba0.specs.State.Walk.{all_terms, terms_in, unplaced, HasPlace, AreOperands, IsNextOperand, AllAmong, IsWalk, IsUnderWay, order_at_end, pending_walk, last_and_one, work}
 use Rattle.usuba0.proofs.HeadLemmas.{head_at}
 use Rattle.usuba0.proofs.KeepLemmas.{head_term}
 use Rattle.usuba0.proofs.WalkLemmas.{first_places-there, first_places-append, walk-append}

@@ -3,6 +3,7 @@ use Rattle.std.proofs.Common.{◌≡◌, ℕ, zero, suc, ◌+◌, ◌-◌, ◌<�
 use Rattle.std.proofs.lemmas.List.{take_more, take_all, length-map}
 use Rattle.std.proofs.lemmas.Option.{slice_get-get_or, get_or_from_slice_get}
 use Rattle.std.specs.List.{slice_get}
+use Rattle.usuba0.specs.declared.limit.TheConstants.{MAX_TERMS}
 use Rattle.usuba0.specs.declared.circuit.Reg.{Reg}
 use Rattle.usuba0.specs.declared.circuit.Gate.{Gate}
 use Rattle.usuba0.specs.declared.builder.Head.{Head}
@@ -10,8 +11,8 @@ use Rattle.usuba0.specs.declared.builder.Head.TheVariants as head
 use Rattle.usuba0.specs.Term.{Term, Input, Const, Xor, Not, Mask, And, Shl, Shr, Rotl, Refresh}
 use Rattle.usuba0.specs.Circuit.{Circuit, IsCore, IsEquation, AreEquations}
 use Rattle.usuba0.specs.CoreOfTerms.{is_among, place_of, register_of, equations_of, postorder, first_places, subterms, core_of_terms, walk as walk_of}
-use Rattle.usuba0.specs.Heads.{term_at, term_of_head, IsBuilder}
-use Rattle.usuba0.specs.Walk.{all_terms, terms_in, HasPlace, place_in, AreOperands, AllAmong, gate_of_head, IsWalk}
+use Rattle.usuba0.specs.State.Heads.{term_at, term_of_head, IsBuilder}
+use Rattle.usuba0.specs.State.Walk.{all_terms, terms_in, HasPlace, place_in, AreOperands, AllAmong, gate_of_head, IsWalk}
 use Rattle.usuba0.proofs.HeadLemmas.{head_at}
 use Rattle.usuba0.proofs.KeepLemmas.{input_named, head_term}
 use Rattle.usuba0.proofs.WalkLemmas.{among_at, all_found}
@@ -226,7 +227,7 @@ module _ (w n : ℕ) (heads : List Head) (places order : List ℕ) (builder : Is
       within r rs p q zero d h = p
       within r rs p q (suc i) d h = q i d (omega arith)
 
-  pub closes : (rs : List Reg) (equations : List Gate) (outputs : List Reg) → 0 < length rs → length rs ≤ 2 ^ 25 → All (λ r. r.0 < n + length heads) rs
+  pub closes : (rs : List Reg) (equations : List Gate) (outputs : List Reg) → 0 < length rs → length rs ≤ MAX_TERMS → All (λ r. r.0 < n + length heads) rs
       → made ≡ first_places [] (walk_of (map term rs)) → equations ≡ equations_of (register_of n made) made → outputs ≡ map (place_in places) rs → Closes w n (map term rs) equations outputs
   closes rs equations outputs some few held e ee eo =
       let walked : AllAmong (walk_of (map term rs)) made = subst (λ (l : List Term). AllAmong (walk_of (map term rs)) l) (sym e) (all_found (walk_of (map term rs)) []) in

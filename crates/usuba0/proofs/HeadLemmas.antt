@@ -9,7 +9,7 @@ use Rattle.usuba0.specs.declared.builder.Head.TheVariants as head
 use Rattle.usuba0.specs.contracts.builder.HeadPartialEq.TheImpl as impl
 use Rattle.usuba0.specs.Term.{Term, Input, Not, Mask, Shl, Shr, Rotl, Refresh}
 use Rattle.usuba0.specs.Builder.{input_terms, IsOnceEach}
-use Rattle.usuba0.specs.Heads.{term_at, term_of_head, terms_of_heads, IsHead, AreHeads}
+use Rattle.usuba0.specs.State.Heads.{term_at, term_of_head, terms_of_heads, IsHead, AreHeads}
 
 -- ---- lists
 

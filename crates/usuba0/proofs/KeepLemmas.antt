@@ -1,17 +1,20 @@
 -- What a builder holds after an operation was kept.
-use Rattle.std.proofs.Common.{◌≡◌, ℕ, ◌+◌, ◌-◌, ◌*◌, inl, inr, append_assoc, bit_xor, ◌<◌, ◌≤◌, ◌^◌, Bool, true, false, Some, None, IfSome, get_or, List, [], ◌∷◌, ◌++◌, length, refl, sym, ap, subst, ◌∙◌, arith, length-append, if◌then◌else◌, true≢false}
+use Rattle.std.proofs.Common.{◌≡◌, ℕ, ◌+◌, ◌-◌, ◌*◌, inl, inr, append_assoc, bit_xor, ◌<◌, ◌≤◌, ◌^◌, Bool, true, false, Some, None, IfSome, get_or, List, [], ◌∷◌, ◌++◌, length, All, refl, sym, ap, subst, ◌∙◌, arith, length-append, if◌then◌else◌, true≢false}
 use Rattle.std.proofs.lemmas.List.{append-nil, get_or_append_left}
 use Rattle.std.proofs.lemmas.Nat.{pow_pos, xor_lt, or_lt, shr_le, mod_below}
+use Rattle.std.specs.List.{Contains}
+use Rattle.std.proofs.lemmas.List.Elements.{All-append, All-contains_itself, Contains-append_left, Contains-append_right}
 use Rattle.std.proofs.lemmas.Map.Keys.{any_passes_from_place}
 use Rattle.std.proofs.lemmas.Option.{slice_get-get_or, get_or_from_slice_get, slice_get_cases, slice_get_within}
 use Rattle.std.specs.List.{slice_get, list_any}
+use Rattle.usuba0.specs.declared.limit.TheConstants.{MAX_TERMS}
 use Rattle.usuba0.specs.declared.builder.Head.{Head}
 use Rattle.usuba0.specs.contracts.builder.HeadPartialEq.TheImpl as impl
 use Rattle.usuba0.specs.declared.builder.Head.TheVariants as head
-use Rattle.usuba0.specs.Term.{Term, Input, constant, ones, shifted_left, shifted_right, rotated_left, not_term, and_term, or_term}
+use Rattle.usuba0.specs.Term.{Term, Input, constant, ones, shifted_left, shifted_right, rotated_left, not_term, and_term, or_term, or_makes}
 use Rattle.usuba0.specs.declared.circuit.Reg.{Reg}
 use Rattle.usuba0.specs.Builder.{Held, Holds, Names, Grows, term_of, input_terms, IsOnceEach}
-use Rattle.usuba0.specs.Heads.{term_of_head, terms_of_heads, IsHead, AreHeads, IsBuilder}
+use Rattle.usuba0.specs.State.Heads.{term_of_head, terms_of_heads, IsHead, AreHeads, IsBuilder}
 use Rattle.usuba0.proofs.HeadLemmas.{slice_get-inputs, get_or-terms, length-inputs, length-terms, terms-push, term_of_head-append, AreHeads-push, term_at_head, new_term, once-push, head_eq-same, head_eq-itself}
 
 abbrev pub terms : ℕ → List Head → List Term
@@ -25,6 +28,7 @@ pub record Inserts (w n : ℕ) (old new : List Head) (h : Head) : Type 0 where
   pub builder : IsBuilder w n new
   pub added : List Term
   pub grown : terms n new ≡ terms n old ++ added
+  pub made : All (Contains (term_of_head (terms n old) h ∷ [])) added
   pub few : length added ≤ 1
 
 inserts_old : (w n : ℕ) (old new : List Head) (h : Head) → new ≡ old → IsBuilder w n old → Inserts w n old new h
@@ -33,10 +37,11 @@ inserts_old w n old new h e b =
       builder = subst (λ (hs : List Head). IsBuilder w n hs) (sym e) b;
       added = [];
       grown = ap (terms n) e ∙ sym (append-nil (terms n old));
+      made = λ k d l. absurd (omega arith);
       few = omega arith;
     }
 
-inserts_new : (w n : ℕ) (old new : List Head) (h : Head) → new ≡ old ++ h ∷ [] → IsBuilder w n old → IsHead w (n + length old) h → n + length old < 2 ^ 25
+inserts_new : (w n : ℕ) (old new : List Head) (h : Head) → new ≡ old ++ h ∷ [] → IsBuilder w n old → IsHead w (n + length old) h → n + length old < MAX_TERMS
     → ((j : ℕ) → slice_get old j ≡ Some h → ⊥) → Inserts w n old new h
 inserts_new w n old new h e b is room absent =
     let t = term_of_head (terms n old) h in
@@ -53,11 +58,12 @@ inserts_new w n old new h e b is room absent =
       };
       added = t ∷ [];
       grown = push;
+      made = All-contains_itself (t ∷ []);
       few = omega arith;
     }
 
 pub inserts : (w n : ℕ) (old new : List Head) (h : Head) → new ≡ (if list_any (impl.eq-value.it h) old then old else old ++ h ∷ [])
-    → IsBuilder w n old → IsHead w (n + length old) h → n + length old < 2 ^ 25 → Inserts w n old new h
+    → IsBuilder w n old → IsHead w (n + length old) h → n + length old < MAX_TERMS → Inserts w n old new h
 inserts w n old new h e b is room = by (list_any (impl.eq-value.it h) old) refl
   where
     by : (r : Bool) → list_any (impl.eq-value.it h) old ≡ r → Inserts w n old new h
@@ -139,27 +145,29 @@ shifted_left_lt w k c r e = let p = pow_pos w in let a : shifted_left w k c < 2 
 
 -- ---- growing
 
-pub Holds-more : (n : ℕ) (old new : Held) (r : Reg) → Grows n old new → Holds old r → Holds new r
-Holds-more n old new r g h =
+-- what is held before is held after
+pub Holds-more : (makes : List Term) (old new : Held) (r : Reg) → Grows makes old new → Holds old r → Holds new r
+Holds-more makes old new r g h =
     let l : length new.terms ≡ length old.terms + length g.added = ap length g.terms ∙ length-append old.terms g.added in omega arith
 
-pub length-more : (n : ℕ) (old new : Held) → Grows n old new → length new.terms ≤ length old.terms + n
-length-more n old new g =
-    let l : length new.terms ≡ length old.terms + length g.added = ap length g.terms ∙ length-append old.terms g.added in
-    let f = g.few in omega arith
+-- a register keeps its term
+pub term_of-more : (makes : List Term) (old new : Held) (r : Reg) → Grows makes old new → Holds old r → term_of new r ≡ term_of old r
+term_of-more makes old new r g h =
+    ap (λ (ts : List Term). get_or ts r.0 (Input 0)) g.terms ∙ get_or_append_left old.terms g.added (Input 0) r.0 h
 
-pub term_of-more : (n : ℕ) (old new : Held) (r : Reg) → Grows n old new → Holds old r → term_of new r ≡ term_of old r
-term_of-more n old new r g h = ap (λ (ts : List Term). get_or ts r.0 (Input 0)) g.terms ∙ get_or_append_left old.terms g.added (Input 0) r.0 h
-
+-- a register that names a term is held
 pub Holds-named : (held : Held) (r : Reg) (t : Term) → Names held r t → Holds held r
 Holds-named held r t e = slice_get_within held.terms r.0 t e
 
+-- a register that names a term stands for it
 pub term_of-named : (held : Held) (r : Reg) (t : Term) → Names held r t → term_of held r ≡ t
 term_of-named held r t e = get_or_from_slice_get held.terms r.0 t (Input 0) e
 
-pub Grows-both : (m n k : ℕ) (a b c : Held) → Grows m a b → Grows n b c → m + n ≤ k → Grows k a c
-Grows-both m n k a b c g h le =
+-- two steps together make what each of them makes
+pub Grows-both : (ms ns : List Term) (a b c : Held) → Grows ms a b → Grows ns b c → Grows (ms ++ ns) a c
+Grows-both ms ns a b c g h =
     let l = length-append g.added h.added in
+    let m = length-append ms ns in
     let p = g.few in
     let q = h.few in
     record {
@@ -167,33 +175,136 @@ Grows-both m n k a b c g h le =
       inputs = h.inputs ∙ g.inputs;
       added = g.added ++ h.added;
       terms = h.terms ∙ ap (λ (ts : List Term). ts ++ h.added) g.terms ∙ append_assoc a.terms g.added h.added;
+      made = All-append (Contains (ms ++ ns)) g.added h.added
+          (λ k d l. Contains-append_left ms ns (get_or g.added k d) (g.made k d l))
+          (λ k d l. Contains-append_right ms ns (get_or h.added k d) (h.made k d l));
       few = omega arith;
       once = h.once;
     }
 
-pub Grows-none : (n : ℕ) (a b : Held) → IsOnceEach a.terms → b ≡ a → Grows n a b
-Grows-none n a b once e =
-    subst (λ (x : Held). Grows n a x) (sym e)
-    (record { width = refl; inputs = refl; added = []; terms = sym (append-nil a.terms); few = omega arith; once = once })
+-- where nothing was added
+pub Grows-none : (makes : List Term) (a b : Held) → IsOnceEach a.terms → b ≡ a → Grows makes a b
+Grows-none makes a b once e =
+    subst (λ (x : Held). Grows makes a x) (sym e)
+    (record {
+      width = refl;
+      inputs = refl;
+      added = [];
+      terms = sym (append-nil a.terms);
+      made = λ k d l. absurd (omega arith);
+      few = omega arith;
+      once = once;
+    })
 
--- the steps of `or`
-pub or_grows : (a b c d : Held) → Grows 1 a b → Grows 1 b c → Grows 1 c d → Grows 4 a d
-or_grows a b c d f g h = Grows-both 2 1 4 a c d (Grows-both 1 1 2 a b c f g (omega arith)) h (omega arith)
+-- what was added is among more terms too
+Grows-more : (ms ns : List Term) (a b : Held) → Grows ms a b → Grows (ms ++ ns) a b
+Grows-more ms ns a b g =
+    let m = length-append ms ns in
+    let p = g.few in
+    record {
+      width = g.width;
+      inputs = g.inputs;
+      added = g.added;
+      terms = g.terms;
+      made = λ k d l. Contains-append_left ms ns (get_or g.added k d) (g.made k d l);
+      few = omega arith;
+      once = g.once;
+    }
 
-pub or_named : (w : ℕ) (a b c d e : Held) (x y p q r s : Reg) → Holds a x → Holds a y
-    → a.width ≡ w → Grows 1 a b → Grows 1 b c → Grows 1 c d
-    → Names b p (not_term a.width (term_of a x))
-    → Names c q (not_term b.width (term_of b y))
+-- ---- the steps of `or`: from a by ~x to b, by ~y to c, by their product to d, and by its complement to e
+
+or_right : (a b : Held) (x y : Reg) → Holds a y → Grows (not_term a.width (term_of a x) ∷ []) a b
+    → not_term b.width (term_of b y) ≡ not_term a.width (term_of a y)
+or_right a b x y held g = ap (λ (v : ℕ). not_term v (term_of b y)) g.width ∙ ap (not_term a.width) (term_of-more _ a b y g held)
+
+or_product : (a b c : Held) (x y p q : Reg) → Holds a y
+    → Grows (not_term a.width (term_of a x) ∷ []) a b → Grows (not_term b.width (term_of b y) ∷ []) b c
+    → Names b p (not_term a.width (term_of a x)) → Names c q (not_term b.width (term_of b y))
+    → and_term (term_of c p) (term_of c q) ≡ and_term (not_term a.width (term_of a x)) (not_term a.width (term_of a y))
+or_product a b c x y p q held gb gc np nq =
+    let left : term_of c p ≡ not_term a.width (term_of a x) =
+    term_of-more _ b c p gc (Holds-named b p _ np) ∙ term_of-named b p _ np in
+    let right : term_of c q ≡ not_term a.width (term_of a y) = term_of-named c q _ nq ∙ or_right a b x y held gb in
+    ap (λ (t : Term). and_term t (term_of c q)) left ∙ ap (and_term (not_term a.width (term_of a x))) right
+
+or_last : (a b c d : Held) (x y p q r : Reg) → Holds a y
+    → Grows (not_term a.width (term_of a x) ∷ []) a b → Grows (not_term b.width (term_of b y) ∷ []) b c
+    → Grows (and_term (term_of c p) (term_of c q) ∷ []) c d
+    → Names b p (not_term a.width (term_of a x)) → Names c q (not_term b.width (term_of b y))
+    → Names d r (and_term (term_of c p) (term_of c q))
+    → not_term d.width (term_of d r) ≡ or_term a.width (term_of a x) (term_of a y)
+or_last a b c d x y p q r held gb gc gd np nq nr =
+    ap (λ (v : ℕ). not_term v (term_of d r)) (gd.width ∙ gc.width ∙ gb.width)
+    ∙ ap (not_term a.width) (term_of-named d r _ nr ∙ or_product a b c x y p q held gb gc np nq)
+
+-- after the first step
+pub or_one : (a b : Held) (x y : Reg) → Grows (not_term a.width (term_of a x) ∷ []) a b
+    → Grows (or_makes a.width (term_of a x) (term_of a y)) a b
+or_one a b x y g =
+    let t = not_term a.width (term_of a x) in
+    let u = not_term a.width (term_of a y) in
+    Grows-more (t ∷ []) (u ∷ and_term t u ∷ not_term a.width (and_term t u) ∷ []) a b g
+
+or_pair : (a b c : Held) (x y : Reg) → Holds a y
+    → Grows (not_term a.width (term_of a x) ∷ []) a b → Grows (not_term b.width (term_of b y) ∷ []) b c
+    → Grows (not_term a.width (term_of a x) ∷ not_term a.width (term_of a y) ∷ []) a c
+or_pair a b c x y held gb gc =
+    Grows-both (not_term a.width (term_of a x) ∷ []) (not_term a.width (term_of a y) ∷ []) a b c gb
+    (subst (λ (t : Term). Grows (t ∷ []) b c) (or_right a b x y held gb) gc)
+
+-- after the second
+pub or_two : (a b c : Held) (x y : Reg) → Holds a y
+    → Grows (not_term a.width (term_of a x) ∷ []) a b → Grows (not_term b.width (term_of b y) ∷ []) b c
+    → Grows (or_makes a.width (term_of a x) (term_of a y)) a c
+or_two a b c x y held gb gc =
+    let t = not_term a.width (term_of a x) in
+    let u = not_term a.width (term_of a y) in
+    Grows-more (t ∷ u ∷ []) (and_term t u ∷ not_term a.width (and_term t u) ∷ []) a c (or_pair a b c x y held gb gc)
+
+or_triple : (a b c d : Held) (x y p q : Reg) → Holds a y
+    → Grows (not_term a.width (term_of a x) ∷ []) a b → Grows (not_term b.width (term_of b y) ∷ []) b c
+    → Grows (and_term (term_of c p) (term_of c q) ∷ []) c d
+    → Names b p (not_term a.width (term_of a x)) → Names c q (not_term b.width (term_of b y))
+    → let t = not_term a.width (term_of a x) in
+    let u = not_term a.width (term_of a y) in
+    Grows (t ∷ u ∷ and_term t u ∷ []) a d
+or_triple a b c d x y p q held gb gc gd np nq =
+    let t = not_term a.width (term_of a x) in
+    let u = not_term a.width (term_of a y) in
+    Grows-both (t ∷ u ∷ []) (and_term t u ∷ []) a c d (or_pair a b c x y held gb gc)
+    (subst (λ (v : Term). Grows (v ∷ []) c d) (or_product a b c x y p q held gb gc np nq) gd)
+
+-- after the third
+pub or_three : (a b c d : Held) (x y p q : Reg) → Holds a y
+    → Grows (not_term a.width (term_of a x) ∷ []) a b → Grows (not_term b.width (term_of b y) ∷ []) b c
+    → Grows (and_term (term_of c p) (term_of c q) ∷ []) c d
+    → Names b p (not_term a.width (term_of a x)) → Names c q (not_term b.width (term_of b y))
+    → Grows (or_makes a.width (term_of a x) (term_of a y)) a d
+or_three a b c d x y p q held gb gc gd np nq =
+    let t = not_term a.width (term_of a x) in
+    let u = not_term a.width (term_of a y) in
+    Grows-more (t ∷ u ∷ and_term t u ∷ []) (not_term a.width (and_term t u) ∷ []) a d (or_triple a b c d x y p q held gb gc gd np nq)
+
+-- after the last
+pub or_four : (a b c d e : Held) (x y p q r : Reg) → Holds a y
+    → Grows (not_term a.width (term_of a x) ∷ []) a b → Grows (not_term b.width (term_of b y) ∷ []) b c
+    → Grows (and_term (term_of c p) (term_of c q) ∷ []) c d → Grows (not_term d.width (term_of d r) ∷ []) d e
+    → Names b p (not_term a.width (term_of a x)) → Names c q (not_term b.width (term_of b y))
+    → Names d r (and_term (term_of c p) (term_of c q))
+    → Grows (or_makes a.width (term_of a x) (term_of a y)) a e
+or_four a b c d e x y p q r held gb gc gd ge np nq nr =
+    let t = not_term a.width (term_of a x) in
+    let u = not_term a.width (term_of a y) in
+    Grows-both (t ∷ u ∷ and_term t u ∷ []) (not_term a.width (and_term t u) ∷ []) a d e
+    (or_triple a b c d x y p q held gb gc gd np nq)
+    (subst (λ (v : Term). Grows (v ∷ []) d e) (or_last a b c d x y p q r held gb gc gd np nq nr) ge)
+
+-- what the last step names
+pub or_named : (a b c d e : Held) (x y p q r s : Reg) → Holds a y
+    → Grows (not_term a.width (term_of a x) ∷ []) a b → Grows (not_term b.width (term_of b y) ∷ []) b c
+    → Grows (and_term (term_of c p) (term_of c q) ∷ []) c d
+    → Names b p (not_term a.width (term_of a x)) → Names c q (not_term b.width (term_of b y))
     → Names d r (and_term (term_of c p) (term_of c q))
     → Names e s (not_term d.width (term_of d r))
-    → Names e s (or_term w (term_of a x) (term_of a y))
-or_named w a b c d e x y p q r s hx hy ew gb gc gd np nq nr ns =
-    let tp : term_of c p ≡ not_term w (term_of a x) =
-    term_of-more 1 b c p gc (Holds-named b p _ np) ∙ term_of-named b p _ np ∙ ap (λ (v : ℕ). not_term v (term_of a x)) ew in
-    let wb : b.width ≡ w = gb.width ∙ ew in
-    let tq : term_of c q ≡ not_term w (term_of a y) =
-    term_of-named c q _ nq ∙ ap (λ (v : ℕ). not_term v (term_of b y)) wb ∙ ap (not_term w) (term_of-more 1 a b y gb hy) in
-    let wd : d.width ≡ w = gd.width ∙ gc.width ∙ wb in
-    let tr : term_of d r ≡ and_term (not_term w (term_of a x)) (not_term w (term_of a y)) =
-    term_of-named d r _ nr ∙ ap (λ (t : Term). and_term t (term_of c q)) tp ∙ ap (and_term (not_term w (term_of a x))) tq in
-    ns ∙ ap Some (ap (λ (v : ℕ). not_term v (term_of d r)) wd ∙ ap (not_term w) tr)
+    → Names e s (or_term a.width (term_of a x) (term_of a y))
+or_named a b c d e x y p q r s held gb gc gd np nq nr ns = ns ∙ ap Some (or_last a b c d x y p q r held gb gc gd np nq nr)

@@ -4,8 +4,8 @@ use Rattle.std.specs.List.{range_with_len}
 use Rattle.std.proofs.lemmas.List.{get_or_append_left, get_or-append-add, get_or-replicate, length-replicate}
 use Rattle.std.proofs.lemmas.List.FromFn.{length-range_with_len, get_or-range_with_len}
 use Rattle.usuba0.specs.declared.builder.Head.{Head}
-use Rattle.usuba0.specs.Heads.{IsBuilder}
-use Rattle.usuba0.specs.Walk.{unplaced, count_unplaced, IsWalk}
+use Rattle.usuba0.specs.State.Heads.{IsBuilder}
+use Rattle.usuba0.specs.State.Walk.{unplaced, count_unplaced, IsWalk}
 
 pub range-push : (a k : ℕ) → range_with_len a (k + 1) ≡ range_with_len a k ++ (a + k) ∷ []
 range-push a zero = let e : a ≡ a + 0 = omega arith in ap (λ (m : ℕ). m ∷ []) e

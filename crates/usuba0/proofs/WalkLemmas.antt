@@ -4,7 +4,7 @@ use Rattle.std.proofs.lemmas.List.{append-nil}
 use Rattle.std.proofs.lemmas.Bool.Decides.{nat_tests}
 use Rattle.usuba0.specs.Term.{Term, Input, Const, Xor, Not, Mask, And, Shl, Shr, Rotl, Refresh}
 use Rattle.usuba0.specs.CoreOfTerms.{postorder, walk, same_term, is_among, first_places, place_of}
-use Rattle.usuba0.specs.Walk.{AllAmong}
+use Rattle.usuba0.specs.State.Walk.{AllAmong}
 
 -- ---- equality of terms
 

@@ -11,8 +11,8 @@ use Rattle.usuba0.specs.Term.{Term, Input, Const, Xor, Not, Mask, And, Shl, Shr,
 use Rattle.usuba0.specs.Builder.{IsOnceEach}
 use Rattle.usuba0.specs.Circuit.{IsEquation}
 use Rattle.usuba0.specs.CoreOfTerms.{postorder, is_among, first_places, place_of}
-use Rattle.usuba0.specs.Heads.{term_at, term_of_head, IsHead, IsBuilder}
-use Rattle.usuba0.specs.Walk.{all_terms, terms_in, unplaced, HasPlace, place_in, count_unplaced, AreOperands, IsNextOperand, gate_of_head, AllAmong, IsClosed, IsWalk, pending_walk}
+use Rattle.usuba0.specs.State.Heads.{term_at, term_of_head, IsHead, IsBuilder}
+use Rattle.usuba0.specs.State.Walk.{all_terms, terms_in, unplaced, HasPlace, place_in, count_unplaced, AreOperands, IsNextOperand, gate_of_head, AllAmong, IsClosed, IsWalk, pending_walk}
 use Rattle.usuba0.proofs.HeadLemmas.{once_at, head_at}
 use Rattle.usuba0.proofs.KeepLemmas.{length_of_terms, input_named, head_term}
 use Rattle.usuba0.proofs.WalkLemmas.{among_at, among_last, among_push, among_place, AllAmong-append, AllAmong-more, first_places-one, first_places-twice, first_places-second}

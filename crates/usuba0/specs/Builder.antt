@@ -1,9 +1,9 @@
 -- A builder as contracts see it: the terms that it holds, by number.
-use Rattle.std.specs.Prelude.{◌≡◌, ℕ, zero, suc, ◌<◌, ◌≤◌, List, [], ◌∷◌, ◌++◌, Some, length, slice_get, slice_index_or, refl}
+use Rattle.std.specs.Prelude.{◌≡◌, ℕ, zero, suc, ◌<◌, ◌≤◌, List, [], ◌∷◌, ◌++◌, Some, All, Contains, length, slice_get, slice_index_or, refl}
 use Rattle.std.specs.Coded.{Coded, code_by, coded×, coded_ℕ, coded_list}
 use Rattle.usuba0.specs.declared.circuit.Reg.{Reg}
 use Rattle.usuba0.specs.Term.{Term, Input}
-use Rattle.usuba0.specs.TermCode.{term_code}
+use Rattle.usuba0.specs.State.TermCode.{term_code}
 
 -- the width, how many inputs there are, and each term at its number
 pub record Held : Type 0 where
@@ -38,11 +38,13 @@ Names held r t = slice_get held.terms r.0 ≡ Some t
 abbrev pub IsOnceEach : List Term → Type 0
 IsOnceEach ts = (i j : ℕ) (t : Term) → slice_get ts i ≡ Some t → slice_get ts j ≡ Some t → i ≡ j
 
--- the width and the inputs are as before, the terms held before keep their numbers, at most n terms were added, and each term stands once
-pub record Grows (n : ℕ) (old new : Held) : Type 0 where
+-- the width and the inputs are as before, the terms held before keep their numbers, each term that was added is one of
+-- those that were to be made, and each term stands once
+pub record Grows (makes : List Term) (old new : Held) : Type 0 where
   pub width : new.width ≡ old.width
   pub inputs : new.inputs ≡ old.inputs
   pub added : List Term
   pub terms : new.terms ≡ old.terms ++ added
-  pub few : length added ≤ n
+  pub made : All (Contains makes) added
+  pub few : length added ≤ length makes
   pub once : IsOnceEach new.terms

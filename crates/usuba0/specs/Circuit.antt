@@ -1,5 +1,6 @@
 -- A core as contracts see it, what holds of every core, its counts and its two limits.
 use Rattle.std.specs.Prelude.{◌≡◌, ℕ, suc, ◌+◌, ◌*◌, ◌<◌, ◌≤◌, ◌^◌, List, [], ◌∷◌, length, All}
+use Rattle.usuba0.specs.declared.limit.TheConstants.{MAX_WEIGHT, MAX_COLUMNS}
 use Rattle.usuba0.specs.declared.circuit.Gate.{Gate}
 use Rattle.usuba0.specs.declared.circuit.Gate.TheVariants as gate
 use Rattle.usuba0.specs.declared.circuit.Reg.{Reg}
@@ -77,11 +78,11 @@ columns core = (core.inputs + 2 * products_of core.equations + refreshes_of core
 
 -- the first limit of a core: its weight
 abbrev pub IsSmall : Circuit → Type 0
-IsSmall core = weight core ≤ 131072
+IsSmall core = weight core ≤ MAX_WEIGHT
 
 -- the second limit of a core: its columns
 abbrev pub HasFewColumns : Circuit → Type 0
-HasFewColumns core = columns core ≤ 32768
+HasFewColumns core = columns core ≤ MAX_COLUMNS
 
 -- what holds of the fields of a core: they are a core's, and its counts stand beside it
 pub record AreFields (width inputs : ℕ) (equations : List Gate) (outputs : List Reg) (products refreshes : ℕ) : Type 0 where

@@ -1,9 +1,7 @@
 pub mod Term
-pub mod TermCode
 pub mod Builder
 pub mod Circuit
 pub mod CoreOfTerms
 pub mod PlainRun
 pub mod CoreText
-pub mod Heads
-pub mod Walk
+pub mod State

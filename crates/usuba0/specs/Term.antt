@@ -1,5 +1,5 @@
 -- The terms that registers stand for, the rules by which terms are made, and the value of a term.
-use Rattle.std.specs.Prelude.{ℕ, ◌-◌, ◌*◌, ◌/◌, ◌%◌, ◌^◌, ◌==◌, ◌&&◌, List, Option, Some, None, if◌then◌else◌, slice_index, bit_and, bit_or, bit_xor}
+use Rattle.std.specs.Prelude.{ℕ, ◌-◌, ◌*◌, ◌/◌, ◌%◌, ◌^◌, ◌==◌, ◌&&◌, List, [], ◌∷◌, Option, Some, None, if◌then◌else◌, slice_index, bit_and, bit_or, bit_xor}
 use Rattle.usuba0.specs.declared.builder.Turn.{Turn}
 use Rattle.usuba0.specs.declared.builder.Turn.TheVariants as turn
 
@@ -78,6 +78,13 @@ not_term w a = folded_one (λ c. bit_xor c (ones w)) (constant a) (Not a)
 -- `a | b` is `~(~a & ~b)`
 abbrev pub or_term : ℕ → Term → Term → Term
 or_term w a b = not_term w (and_term (not_term w a) (not_term w b))
+
+-- the terms that make `a | b`, in the order in which they are made
+abbrev pub or_makes : ℕ → Term → Term → List Term
+or_makes w a b =
+    let x = not_term w a in
+    let y = not_term w b in
+    x ∷ y ∷ and_term x y ∷ not_term w (and_term x y) ∷ []
 
 -- a shift or rotation by k above 0, at width w: a rotation to the right by k is one to the left by w - k
 abbrev pub turned : ℕ → Turn → ℕ → Term → Term

@@ -1,12 +1,13 @@
-ghost use Rattle.std.specs.Prelude.{◌≡◌, ℕ, ◌+◌, ◌-◌, ◌<◌, ◌≤◌, ◌^◌, All, List, length, map, IfOk, IfSome, OnErr};
+ghost use Rattle.std.specs.Prelude.{◌≡◌, ℕ, ◌+◌, ◌-◌, ◌<◌, ◌≤◌, ◌^◌, ◌∷◌, [], All, List, length, map, IfOk, IfSome, OnErr};
 ghost use Rattle.usuba0.specs.Builder.{Holds, Names, Grows, IsOnceEach, term_of, input_terms};
 ghost use Rattle.usuba0.specs.Circuit.{IsSmall, HasFewColumns, weight, columns};
 ghost use Rattle.usuba0.specs.CoreOfTerms.{core_of_terms};
-ghost use Rattle.usuba0.specs.Heads.{IsHead, IsWidth, term_of_head};
-ghost use Rattle.usuba0.specs.Term.{Term, Input, Const, constant, xor_term, and_term, not_term, or_term, shift_term, refresh_term};
+ghost use Rattle.usuba0.specs.State.Heads.{IsHead, IsWidth, term_of_head};
+ghost use Rattle.usuba0.specs.Term.{Term, Input, Const, constant, xor_term, and_term, not_term, or_term, or_makes, shift_term, refresh_term};
 
 use crate::circuit::{Core, Reg};
 use crate::finish::{CloseFault, Walk, close};
+use crate::limit::{MAX_COLUMNS, MAX_TERMS, MAX_WEIGHT, REFRESH_NUMBERS};
 use crate::words::{all_ones, rotate_left, shift_left, shift_right};
 use indexmap::IndexSet;
 use std::alloc::{AllocError, Global};
@@ -57,7 +58,7 @@ pub struct CoreBuilder {
 
 impl Model for CoreBuilder {
     ghost use Rattle.usuba0.specs.Builder.{Held, held_code, input_terms};
-    ghost use Rattle.usuba0.specs.Heads.{terms_of_heads, IsBuilder};
+    ghost use Rattle.usuba0.specs.State.Heads.{terms_of_heads, IsBuilder};
 
     ghost Value = { Held };
 
@@ -74,7 +75,7 @@ impl CoreBuilder {
         requires some_width { 0 < width }
         requires width_fits { width ≤ 64 }
         requires some_input { 0 < inputs }
-        requires few_inputs { inputs < 2 ^ 25 }
+        requires few_inputs { inputs < MAX_TERMS }
         ensures { IfOk result (λ b. b ≡ record { width = width; inputs = inputs; terms = input_terms inputs }) }
     {
         Ok(CoreBuilder {
@@ -96,7 +97,7 @@ impl CoreBuilder {
         ensures width { IsWidth self.now.width }
         ensures some_input { 0 < self.now.inputs }
         ensures inputs { self.now.inputs ≤ length self.now.terms }
-        ensures few { length self.now.terms ≤ 2 ^ 25 }
+        ensures few { length self.now.terms ≤ MAX_TERMS }
         ensures once { IsOnceEach self.now.terms }
     {
         let _inputs = &self.inputs;
@@ -114,10 +115,10 @@ impl CoreBuilder {
 
     /// The constant `value`.
     pub fn constant(&mut self, value: u64) -> Result<Reg, AllocError>
-        requires room { length self.old.terms < 2 ^ 25 }
+        requires room { length self.old.terms < MAX_TERMS }
         requires fits { value < 2 ^ self.old.width }
         ensures term { IfOk result (λ r. Names self.new r (Const value)) }
-        ensures grows { Grows 1 self.old self.new }
+        ensures grows { Grows (Const value ∷ []) self.old self.new }
         ensures err { OnErr result (self.new ≡ self.old) }
     {
         self.keep(Head::Const(value))
@@ -125,11 +126,11 @@ impl CoreBuilder {
 
     /// `a ^ b`.
     pub fn xor(&mut self, a: Reg, b: Reg) -> Result<Reg, AllocError>
-        requires room { length self.old.terms < 2 ^ 25 }
+        requires room { length self.old.terms < MAX_TERMS }
         requires left { Holds self.old a }
         requires right { Holds self.old b }
         ensures term { IfOk result (λ r. Names self.new r (xor_term (term_of self.old a) (term_of self.old b))) }
-        ensures grows { Grows 1 self.old self.new }
+        ensures grows { Grows (xor_term (term_of self.old a) (term_of self.old b) ∷ []) self.old self.new }
         ensures err { OnErr result (self.new ≡ self.old) }
     {
         match (self.constant_of(a), self.constant_of(b)) {
@@ -140,11 +141,11 @@ impl CoreBuilder {
 
     /// `a & b`; a mask, where one of them is a constant.
     pub fn and(&mut self, a: Reg, b: Reg) -> Result<Reg, AllocError>
-        requires room { length self.old.terms < 2 ^ 25 }
+        requires room { length self.old.terms < MAX_TERMS }
         requires left { Holds self.old a }
         requires right { Holds self.old b }
         ensures term { IfOk result (λ r. Names self.new r (and_term (term_of self.old a) (term_of self.old b))) }
-        ensures grows { Grows 1 self.old self.new }
+        ensures grows { Grows (and_term (term_of self.old a) (term_of self.old b) ∷ []) self.old self.new }
         ensures err { OnErr result (self.new ≡ self.old) }
     {
         match (self.constant_of(a), self.constant_of(b)) {
@@ -157,11 +158,11 @@ impl CoreBuilder {
 
     /// `a | b`, which is `~(~a & ~b)` and so can add four terms.
     pub fn or(&mut self, a: Reg, b: Reg) -> Result<Reg, AllocError>
-        requires room { length self.old.terms < 2 ^ 25 - 3 }
+        requires room { length self.old.terms < MAX_TERMS - 3 }
         requires left { Holds self.old a }
         requires right { Holds self.old b }
         ensures term { IfOk result (λ r. Names self.new r (or_term self.old.width (term_of self.old a) (term_of self.old b))) }
-        ensures grows { Grows 4 self.old self.new }
+        ensures grows { Grows (or_makes self.old.width (term_of self.old a) (term_of self.old b)) self.old self.new }
     {
         let not_a = self.not(a)?;
         let not_b = self.not(b)?;
@@ -171,10 +172,10 @@ impl CoreBuilder {
 
     /// `~a`.
     pub fn not(&mut self, a: Reg) -> Result<Reg, AllocError>
-        requires room { length self.old.terms < 2 ^ 25 }
+        requires room { length self.old.terms < MAX_TERMS }
         requires operand { Holds self.old a }
         ensures term { IfOk result (λ r. Names self.new r (not_term self.old.width (term_of self.old a))) }
-        ensures grows { Grows 1 self.old self.new }
+        ensures grows { Grows (not_term self.old.width (term_of self.old a) ∷ []) self.old self.new }
         ensures err { OnErr result (self.new ≡ self.old) }
     {
         match self.constant_of(a) {
@@ -185,11 +186,11 @@ impl CoreBuilder {
 
     /// `a` shifted or rotated by `k` bits. A rotation to the right is kept as one to the left.
     pub fn shift(&mut self, kind: Turn, k: u32, a: Reg) -> Result<Reg, AllocError>
-        requires room { length self.old.terms < 2 ^ 25 }
+        requires room { length self.old.terms < MAX_TERMS }
         requires below { k < self.old.width }
         requires operand { Holds self.old a }
         ensures term { IfOk result (λ r. Names self.new r (shift_term self.old.width kind k (term_of self.old a))) }
-        ensures grows { Grows 1 self.old self.new }
+        ensures grows { Grows (shift_term self.old.width kind k (term_of self.old a) ∷ []) self.old self.new }
         ensures err { OnErr result (self.new ≡ self.old) }
     {
         let width = self.width;
@@ -210,11 +211,11 @@ impl CoreBuilder {
 
     /// `refresh(a, k)`: refreshes with different `k` are different terms.
     pub fn refresh(&mut self, k: u32, a: Reg) -> Result<Reg, AllocError>
-        requires room { length self.old.terms < 2 ^ 25 }
-        requires number { k < 65536 }
+        requires room { length self.old.terms < MAX_TERMS }
+        requires number { k < REFRESH_NUMBERS }
         requires operand { Holds self.old a }
         ensures term { IfOk result (λ r. Names self.new r (refresh_term k (term_of self.old a))) }
-        ensures grows { Grows 1 self.old self.new }
+        ensures grows { Grows (refresh_term k (term_of self.old a) ∷ []) self.old self.new }
         ensures err { OnErr result (self.new ≡ self.old) }
     {
         self.keep(Head::Refresh(k, a))
@@ -238,10 +239,10 @@ impl CoreBuilder {
 
     // The register of this operation over terms that are held; the term is added if it is new.
     fn keep(&mut self, head: Head) -> Result<Reg, AllocError>
-        requires room { length self.old.terms < 2 ^ 25 }
+        requires room { length self.old.terms < MAX_TERMS }
         requires head { IsHead self.old.width (length self.old.terms) head }
         ensures term { IfOk result (λ r. Names self.new r (term_of_head self.old.terms head)) }
-        ensures grows { Grows 1 self.old self.new }
+        ensures grows { Grows (term_of_head self.old.terms head ∷ []) self.old self.new }
         ensures err { OnErr result (self.new ≡ self.old) }
     {
         let (at, _) = self.heads.insert_full(head)?;
@@ -252,14 +253,14 @@ impl CoreBuilder {
     /// `ColumnsTooMany`; `Core::fits` has the two limits.
     pub fn finish(self, alloc: Global, outputs: &[Reg]) -> Result<Core, CloseFault>
         requires some { 0 < length outputs.now }
-        requires few { length outputs.now ≤ 2 ^ 25 }
+        requires few { length outputs.now ≤ MAX_TERMS }
         requires held { All (Holds self) outputs.now }
         ensures core { IfOk result (λ core. core ≡ core_of_terms self.width self.inputs (map (term_of self) outputs.now)) }
         ensures within { IfOk result (λ core. IsSmall core × HasFewColumns core) }
         ensures too_large { result ≡ Err CloseFault.CoreTooLarge
-            → 131072 < weight (core_of_terms self.width self.inputs (map (term_of self) outputs.now)) }
+            → MAX_WEIGHT < weight (core_of_terms self.width self.inputs (map (term_of self) outputs.now)) }
         ensures too_many { let core = core_of_terms self.width self.inputs (map (term_of self) outputs.now) in
-            result ≡ Err CloseFault.ColumnsTooMany → IsSmall core × (32768 < columns core) }
+            result ≡ Err CloseFault.ColumnsTooMany → IsSmall core × (MAX_COLUMNS < columns core) }
     {
         let walk = Walk::of(
             alloc,
@@ -276,50 +277,5 @@ impl CoreBuilder {
             outputs,
             &walk,
         )
-    }
-}
-
-#[cfg(test)]
-mod tests {
-    use super::*;
-    use std::test::Fail;
-
-    #[test]
-    fn equal_terms_have_one_number_and_the_order_of_operands_counts(
-        rt: HostRuntime,
-    ) -> Result<(), Fail> {
-        let mut builder = CoreBuilder::new(rt.alloc(), 1, 2)?;
-        let x = builder.input(0);
-        let y = builder.input(1);
-        let first = builder.xor(x, y)?;
-        assert!(rt; builder.terms() < 9);
-        let again = builder.xor(x, y)?;
-        assert!(rt; builder.terms() < 9);
-        let turned = builder.xor(y, x)?;
-        assert_eq!(rt; first.0, 2);
-        assert_eq!(rt; again.0, 2);
-        assert_eq!(rt; turned.0, 3);
-        Ok(())
-    }
-
-    #[test]
-    fn constants_fold_and_one_constant_is_a_mask(rt: HostRuntime) -> Result<(), Fail> {
-        let mut builder = CoreBuilder::new(rt.alloc(), 8, 1)?;
-        let x = builder.input(0);
-        let a = builder.constant(0b1100)?;
-        let b = builder.constant(0b1010)?;
-        let both = builder.and(a, b)?;
-        assert!(rt; builder.terms() < 9);
-        let eight = builder.constant(0b1000)?;
-        assert_eq!(rt; both.0, eight.0);
-        let rotated = builder.shift(Turn::RotRight, 3, eight)?;
-        assert!(rt; builder.terms() < 9);
-        let one = builder.constant(1)?;
-        assert_eq!(rt; rotated.0, one.0);
-        let masked = builder.and(a, x)?;
-        assert!(rt; builder.terms() < 9);
-        let turned = builder.and(x, a)?;
-        assert_eq!(rt; masked.0, turned.0);
-        Ok(())
     }
 }

@@ -3,15 +3,12 @@ ghost use Rattle.std.specs.Option.{option_copied};
 ghost use Rattle.usuba0.specs.Circuit.{products_of, refreshes_of, weight, columns, IsCore, IsSmall, HasFewColumns};
 ghost use Rattle.usuba0.specs.Term.{bits_of_width};
 
+use crate::limit::{MAX_COLUMNS, MAX_WEIGHT};
 use std::marker::Model;
 
 /// A register, by its number.
 #[derive(Debug, Clone, Copy, PartialEq, Eq, PartialOrd, Ord, Hash)]
 pub struct Reg(pub u32);
-
-pub(crate) const MAX_WEIGHT: u64 = 131_072;
-
-pub(crate) const MAX_COLUMNS: u64 = 32_768;
 
 /// The right side of an equation.
 #[derive(Debug, Clone, Copy, PartialEq, Eq)]

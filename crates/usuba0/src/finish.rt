@@ -3,14 +3,15 @@ ghost use Rattle.std.specs.Prelude.{◌≡◌, ◌⊎◌, ℕ, ◌+◌, ◌-◌,
 ghost use Rattle.usuba0.specs.Builder.{IsOnceEach};
 ghost use Rattle.usuba0.specs.Circuit.{IsSmall, HasFewColumns, weight, columns};
 ghost use Rattle.usuba0.specs.CoreOfTerms.{core_of_terms, first_places, postorder, walk as walk_of, register_of, equations_of};
-ghost use Rattle.usuba0.specs.Heads.{IsBuilder};
+ghost use Rattle.usuba0.specs.State.Heads.{IsBuilder};
 ghost use Rattle.usuba0.specs.Term.{Term, Input};
-ghost use Rattle.usuba0.specs.Walk.{all_terms, terms_in, AreOperands, HasPlace, IsNextOperand, gate_of_head, place_in, IsWalk, IsUnderWay, order_at_end, unplaced, work};
+ghost use Rattle.usuba0.specs.State.Walk.{all_terms, terms_in, AreOperands, HasPlace, IsNextOperand, gate_of_head, place_in, IsWalk, IsUnderWay, order_at_end, unplaced, work};
 ghost use Rattle.usuba0.specs.declared.finish.CloseFault.TheVariants.{Memory};
 ghost use Rattle.std.specs.List.{range_with_len};
 
 use crate::builder::Head;
-use crate::circuit::{Core, Gate, MAX_COLUMNS, MAX_WEIGHT, Reg};
+use crate::circuit::{Core, Gate, Reg};
+use crate::limit::{MAX_COLUMNS, MAX_TERMS, MAX_WEIGHT};
 use std::alloc::{AllocError, Global};
 use thiserror::Error;
 
@@ -210,7 +211,7 @@ impl Walk {
 
 // The registers of the inputs, and then no register for each other term.
 fn input_places(alloc: Global, inputs: u32, others: usize) -> Result<Vec<u32>, AllocError>
-    requires { inputs + others ≤ 2 ^ 25 }
+    requires { inputs + others ≤ MAX_TERMS }
     ensures { IfOk result (λ places. places.items ≡ range_with_len 0 inputs ++ replicate others unplaced) }
 {
     let mut places = Vec::with_capacity(alloc, inputs as usize + others)?;
@@ -234,7 +235,7 @@ pub fn close(
 ) -> Result<Core, CloseFault>
     requires builder { IsBuilder width inputs heads.now }
     requires some { 0 < length outputs.now }
-    requires few { length outputs.now ≤ 2 ^ 25 }
+    requires few { length outputs.now ≤ MAX_TERMS }
     requires held { All (λ r. r.0 < inputs + length heads.now) outputs.now }
     requires walk { IsWalk width inputs heads.now walk.now.places.items walk.now.order.items }
     requires order { terms_in (all_terms inputs heads.now) walk.now.order.items
@@ -243,10 +244,10 @@ pub fn close(
         IfOk result (λ core. core ≡ core_of_terms width inputs outs) }
     ensures within { IfOk result (λ core. IsSmall core × HasFewColumns core) }
     ensures too_large { let outs = map (λ r. slice_index_or (all_terms inputs heads.now) r.0 (Input 0)) outputs.now in
-        result ≡ Err CloseFault.CoreTooLarge → 131072 < weight (core_of_terms width inputs outs) }
+        result ≡ Err CloseFault.CoreTooLarge → MAX_WEIGHT < weight (core_of_terms width inputs outs) }
     ensures too_many { let outs = map (λ r. slice_index_or (all_terms inputs heads.now) r.0 (Input 0)) outputs.now in
         let core = core_of_terms width inputs outs in
-        result ≡ Err CloseFault.ColumnsTooMany → IsSmall core × (32768 < columns core) }
+        result ≡ Err CloseFault.ColumnsTooMany → IsSmall core × (MAX_COLUMNS < columns core) }
 {
     let equations = equations(alloc, width, inputs, heads, walk)?;
     let outputs = output_registers(alloc, outputs, walk)?;

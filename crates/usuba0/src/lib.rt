@@ -4,15 +4,15 @@
 mod builder;
 mod circuit;
 mod finish;
+mod limit;
 mod run;
-#[cfg(test)]
-mod tests;
 mod text;
 mod words;
 
 pub use builder::{CoreBuilder, Turn};
 pub use circuit::{Core, Gate, Reg};
 pub use finish::CloseFault;
+pub use limit::{MAX_COLUMNS, MAX_TERMS, MAX_WEIGHT, REFRESH_NUMBERS, limits};
 pub use run::run_plain;
 pub use text::write_core;
 pub use words::word_bits;

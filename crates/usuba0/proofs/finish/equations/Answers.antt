@@ -2,7 +2,7 @@ use Rattle.std.proofs.Common.{ℕ, ◌+◌, ◌-◌, ◌<◌, List, [], ◌∷�
 use Rattle.usuba0.specs.declared.circuit.Gate.{Gate}
 use Rattle.usuba0.specs.declared.builder.Head.TheVariants as head
 use Rattle.usuba0.specs.CoreOfTerms.{equations_of, register_of}
-use Rattle.usuba0.specs.Walk.{all_terms, terms_in, place_in, gate_of_head, AreOperands}
+use Rattle.usuba0.specs.State.Walk.{all_terms, terms_in, place_in, gate_of_head, AreOperands}
 use Rattle.usuba0.proofs.WalkSteps.{AreOperands-map}
 use Rattle.usuba0.proofs.CloseLemmas.{equations_more, order_operands}
 use Rattle.usuba0.proofs.finish.equations.Goals as goal

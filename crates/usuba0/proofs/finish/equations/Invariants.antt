@@ -1,6 +1,6 @@
 use Rattle.std.proofs.Common.{◌≡◌, take}
 use Rattle.usuba0.specs.CoreOfTerms.{equations_of, register_of}
-use Rattle.usuba0.specs.Walk.{all_terms, terms_in}
+use Rattle.usuba0.specs.State.Walk.{all_terms, terms_in}
 use Rattle.usuba0.proofs.finish.equations.Given as goal
 
 abbrev pub invariant-loop-term : goal.invariant-loop-term

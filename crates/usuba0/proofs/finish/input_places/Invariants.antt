@@ -1,6 +1,6 @@
 use Rattle.std.proofs.Common.{◌≡◌, ◌++◌, replicate}
 use Rattle.std.specs.List.{range_with_len}
-use Rattle.usuba0.specs.Walk.{unplaced}
+use Rattle.usuba0.specs.State.Walk.{unplaced}
 use Rattle.usuba0.proofs.finish.input_places.Given as goal
 
 abbrev pub invariant-loop-k : goal.invariant-loop-k

@@ -1,5 +1,5 @@
 use Rattle.std.proofs.Common.{◌≡◌, map, take}
-use Rattle.usuba0.specs.Walk.{place_in}
+use Rattle.usuba0.specs.State.Walk.{place_in}
 use Rattle.usuba0.proofs.finish.output_registers.Given as goal
 
 abbrev pub invariant-loop-output : goal.invariant-loop-output

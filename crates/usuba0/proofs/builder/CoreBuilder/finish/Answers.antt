@@ -1,10 +1,11 @@
 use Rattle.std.proofs.Common.{◌≡◌, ◌+◌, ◌<◌, List, length, get_or, map, IfOk, subst, sym, arith}
+use Rattle.usuba0.specs.declared.limit.TheConstants.{MAX_COLUMNS, MAX_WEIGHT}
 use Rattle.usuba0.specs.declared.builder.Head.{Head}
 use Rattle.usuba0.specs.declared.circuit.Reg.{Reg}
 use Rattle.usuba0.specs.Circuit.{IsSmall, weight, columns}
 use Rattle.usuba0.specs.CoreOfTerms.{core_of_terms}
 use Rattle.usuba0.specs.Term.{Input}
-use Rattle.usuba0.specs.Walk.{all_terms}
+use Rattle.usuba0.specs.State.Walk.{all_terms}
 use Rattle.usuba0.proofs.KeepLemmas.{length_of_terms}
 use Rattle.usuba0.proofs.builder.CoreBuilder.finish.Goals as goal
 
@@ -31,7 +32,7 @@ pub returns-clause-too_large : goal.returns-clause-too_large
 returns-clause-too_large c =
     rw (← c.self.view_is)
     (λ e. subst
-    (λ (hs : List Head). 131072 < weight (core_of_terms c.self.inside.width c.self.inside.inputs (map (λ (r : Reg). get_or (all_terms c.self.inside.inputs hs) r.0 (Input 0)) c.args.outputs.now)))
+    (λ (hs : List Head). MAX_WEIGHT < weight (core_of_terms c.self.inside.width c.self.inside.inputs (map (λ (r : Reg). get_or (all_terms c.self.inside.inputs hs) r.0 (Input 0)) c.args.outputs.now)))
     c.as_slice-2.ensures.keys (c.close.ensures.too_large e))
 
 pub returns-clause-too_many : goal.returns-clause-too_many
@@ -40,5 +41,5 @@ returns-clause-too_many c =
     (λ e. subst
     (λ (hs : List Head).
     let core = core_of_terms c.self.inside.width c.self.inside.inputs (map (λ (r : Reg). get_or (all_terms c.self.inside.inputs hs) r.0 (Input 0)) c.args.outputs.now) in
-    IsSmall core × (32768 < columns core))
+    IsSmall core × (MAX_COLUMNS < columns core))
     c.as_slice-2.ensures.keys (c.close.ensures.too_many e))

@@ -1,5 +1,5 @@
 use Rattle.std.proofs.Common.{ℕ, subst, refl, arith}
-use Rattle.usuba0.specs.Heads.{IsHead}
+use Rattle.usuba0.specs.State.Heads.{IsHead}
 use Rattle.usuba0.proofs.KeepLemmas.{Inserts, inserts, named, length_of_terms}
 use Rattle.usuba0.proofs.builder.CoreBuilder.keep.Goals as goal
 
@@ -23,4 +23,4 @@ returns-clause-term c =
 pub returns-clause-grows : goal.returns-clause-grows
 returns-clause-grows c =
     rw (← c.self.view_is)
-    (record { width = refl; inputs = refl; added = (kept c).added; terms = (kept c).grown; few = (kept c).few; once = (kept c).builder.once })
+    (record { width = refl; inputs = refl; added = (kept c).added; terms = (kept c).grown; made = (kept c).made; few = (kept c).few; once = (kept c).builder.once })

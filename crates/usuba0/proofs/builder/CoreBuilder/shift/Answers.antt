@@ -3,7 +3,7 @@ use Rattle.usuba0.proofs.KeepLemmas.{rotated_lt, Grows-none}
 use Rattle.usuba0.proofs.builder.CoreBuilder.shift.Goals as goal
 
 pub returns-then-k-eq0-clause-grows : goal.returns-then-k-eq0-clause-grows
-returns-then-k-eq0-clause-grows c = rw (← c.self.view_is) (Grows-none 1 _ _ c.self.invariant.once refl)
+returns-then-k-eq0-clause-grows c = rw (← c.self.view_is) (Grows-none _ _ _ c.self.invariant.once refl)
 
 pub keep-requires-in-RotLeft-Some-clause-head : goal.keep-requires-in-RotLeft-Some-clause-head
 keep-requires-in-RotLeft-Some-clause-head c =

@@ -2,7 +2,7 @@ use Rattle.std.proofs.Common.{List, get_or, ap, ◌∙◌}
 use Rattle.usuba0.specs.declared.circuit.Reg.{Reg}
 use Rattle.usuba0.specs.Term.{Term, Input}
 use Rattle.usuba0.specs.CoreOfTerms.{first_places, postorder}
-use Rattle.usuba0.specs.Walk.{all_terms}
+use Rattle.usuba0.specs.State.Walk.{all_terms}
 use Rattle.usuba0.proofs.AdvanceLemmas.{outputs_more}
 use Rattle.usuba0.proofs.finish.Walk.of.Goals as goal
 

@@ -1,7 +1,7 @@
 use Rattle.std.proofs.Common.{◌≡◌, [], map, take, get_or}
 use Rattle.usuba0.specs.Term.{Input}
 use Rattle.usuba0.specs.CoreOfTerms.{first_places, walk}
-use Rattle.usuba0.specs.Walk.{all_terms, terms_in, IsWalk}
+use Rattle.usuba0.specs.State.Walk.{all_terms, terms_in, IsWalk}
 use Rattle.usuba0.proofs.finish.Walk.of.Given as goal
 
 abbrev pub invariant-loop-output : goal.invariant-loop-output

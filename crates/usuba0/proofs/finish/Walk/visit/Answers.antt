@@ -1,5 +1,5 @@
 use Rattle.std.proofs.Common.{◌≡◌, ℕ, List, [], ◌∷◌, ◌++◌, ap, ◌∙◌, true≢false, sym}
-use Rattle.usuba0.specs.Walk.{order_at_end}
+use Rattle.usuba0.specs.State.Walk.{order_at_end}
 use Rattle.usuba0.proofs.AdvanceLemmas.{placed_end, start_under_way}
 use Rattle.usuba0.proofs.finish.Walk.visit.Goals as goal
 

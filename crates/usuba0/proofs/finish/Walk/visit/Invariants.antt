@@ -1,7 +1,7 @@
 use Rattle.std.proofs.Common.{◌≡◌, get_or}
 use Rattle.usuba0.specs.Term.{Input}
 use Rattle.usuba0.specs.CoreOfTerms.{first_places, postorder}
-use Rattle.usuba0.specs.Walk.{all_terms, terms_in, IsUnderWay, order_at_end, work}
+use Rattle.usuba0.specs.State.Walk.{all_terms, terms_in, IsUnderWay, order_at_end, work}
 use Rattle.usuba0.proofs.finish.Walk.visit.Given as goal
 
 abbrev pub invariant-loop-self : goal.invariant-loop-self

@@ -1,5 +1,6 @@
 -- What the fields of a builder stand for: a term is kept as its operation over the numbers of its operands.
 use Rattle.std.specs.Prelude.{ℕ, suc, ◌+◌, ◌<◌, ◌≤◌, ◌^◌, List, [], ◌∷◌, ◌++◌, length, slice_index_or}
+use Rattle.usuba0.specs.declared.limit.TheConstants.{MAX_TERMS}
 use Rattle.usuba0.specs.declared.circuit.Reg.{Reg}
 use Rattle.usuba0.specs.declared.builder.Head.{Head}
 use Rattle.usuba0.specs.declared.builder.Head.TheVariants as head
@@ -53,6 +54,6 @@ pub record IsBuilder (width inputs : ℕ) (heads : List Head) : Type 0 where
   pub some_width : 0 < width
   pub width_fits : width ≤ 64
   pub some_input : 0 < inputs
-  pub few : inputs + length heads ≤ 2 ^ 25
+  pub few : inputs + length heads ≤ MAX_TERMS
   pub earlier : AreHeads width inputs heads
   pub once : IsOnceEach (terms_of_heads (input_terms inputs) heads)

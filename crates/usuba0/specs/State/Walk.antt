@@ -9,7 +9,7 @@ use Rattle.usuba0.specs.Term.{Term, Input}
 use Rattle.usuba0.specs.Builder.{input_terms}
 use Rattle.usuba0.specs.Circuit.{IsEquation}
 use Rattle.usuba0.specs.CoreOfTerms.{postorder, is_among, first_places}
-use Rattle.usuba0.specs.Heads.{terms_of_heads}
+use Rattle.usuba0.specs.State.Heads.{terms_of_heads}
 
 -- the terms of a builder with n inputs
 abbrev pub all_terms : ℕ → List Head → List Term

@@ -11,7 +11,7 @@ use Rattle.usuba0.specs.Term.{Term}
 use Rattle.usuba0.specs.Builder.{Held, Holds, term_of}
 use Rattle.flatten.specs.Unrolled.{Expression, both, chained, unrolled_expression}
 use Rattle.flatten.specs.Rounds.{Environment}
-use Rattle.flatten.specs.Walk.{slots_of, held_by, AllHeld, IsMade, IsRefused, Extends, joined_term}
+use Rattle.flatten.specs.State.Walk.{slots_of, held_by, AllHeld, IsMade, IsRefused, Extends, joined_term}
 use Rattle.flatten.proofs.Trees.{unrolled_links}
 use Rattle.flatten.proofs.Made.{join_by, SoFar, unrolled-chain, made-joined, refused-right, refused-sign, refused-chained}
 use Rattle.flatten.proofs.Extends.{Extends-twice, term_of-extends, environment-extends, IsReady-extends}

@@ -17,7 +17,7 @@ use Rattle.flatten.specs.Rounds.{same_cell}
 use Rattle.flatten.specs.SourceCore.{core_of_node}
 use Rattle.flatten.specs.Thin.{is_among, assigned_cells, IsThinNode}
 use Rattle.flatten.specs.Declarations.{declarations, declares_single_bit}
-use Rattle.flatten.specs.Walk.{register_at, with_name, declared_all, registers_of, slots_of, held_by, Progress, taken_all, taken_of, AllHeld, Extends, IsReady, first_held, HasFitCounts, IsStart, IsAtEnd}
+use Rattle.flatten.specs.State.Walk.{register_at, with_name, declared_all, registers_of, slots_of, held_by, Progress, taken_all, taken_of, AllHeld, Extends, IsReady, first_held, HasFitCounts, IsStart, IsAtEnd}
 use Rattle.flatten.proofs.Ordered.{some_is, both-parts, same_cell-itself}
 use Rattle.flatten.proofs.Tables.{Table, cell_of, declared-is, declared-refused, numbered-inside, numbered-outside, declared_cells-append}
 use Rattle.flatten.proofs.Thinness.{cases, among-append}
@@ -212,7 +212,7 @@ pub record HasCore (node : Node) (now : Table) (held : Held) (outputs : List Reg
   pub small : weight (core_of_terms held.width held.inputs (map (term_of held) outputs)) ≤ 131072
   pub narrow : columns (core_of_terms held.width held.inputs (map (term_of held) outputs)) ≤ 32768
 
-some-decl : (ds : List Decl) → 0 < length ds → ds ≢ []
+pub some-decl : (ds : List Decl) → 0 < length ds → ds ≢ []
 some-decl ds some is = absurd (omega (arith, ap length is, some))
 
 pub has-core : (node : Node) (now : Table) (held : Held) → IsAtEnd node now held → (outputs locals : List Reg)

@@ -9,7 +9,7 @@ use Rattle.flatten.specs.Unrolled.{Cell, Expression, cells, complement, conjunct
 use Rattle.flatten.specs.Rounds.{Environment, same_cell, whole, element_by_element, value_of}
 use Rattle.flatten.specs.SourceCore.{term_operators}
 use Rattle.flatten.specs.Thin.{signs, all_signs}
-use Rattle.flatten.specs.Walk.{Progress, held_by, taken_all}
+use Rattle.flatten.specs.State.Walk.{Progress, held_by, taken_all}
 use Rattle.flatten.proofs.Ordered.{IsTaken, taken_all-cons, both-parts, some_is, same_cell-is, taken-defines, map-part}
 use Rattle.flatten.proofs.Thinness.{IsSingle, AllSingle, after-step, cases}
 use Rattle.flatten.proofs.Small.{Covers, IsMadeOf, covers-more, covers-made, not-made, xor-made, and-made, among-append, among-parts, first_places-few}

@@ -8,7 +8,7 @@ use mathlib.Core.List.{append-nil}
 use Rattle.usuba0.specs.declared.Reg.{Reg}
 use Rattle.usuba0.specs.Term.{Input}
 use Rattle.usuba0.specs.Builder.{Held, Holds, term_of}
-use Rattle.flatten.specs.Walk.{slots_of, held_by, AllHeld, IsReady, Extends}
+use Rattle.flatten.specs.State.Walk.{slots_of, held_by, AllHeld, IsReady, Extends}
 
 pub Extends-itself : (held : Held) → Extends held held
 Extends-itself held = record { width = refl; inputs = refl; added = []; terms = sym (append-nil held.terms) }

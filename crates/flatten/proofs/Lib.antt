@@ -13,3 +13,4 @@ pub mod Counted
 pub mod Start
 pub mod Whole
 pub mod Closing
+pub mod Coverage

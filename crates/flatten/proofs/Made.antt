@@ -12,7 +12,7 @@ use Rattle.flatten.specs.Unrolled.{Expression, conjunction, exclusive_or, both, 
 use Rattle.flatten.specs.Rounds.{Environment, value_of, element_by_element}
 use Rattle.flatten.specs.SourceCore.{term_operators}
 use Rattle.flatten.specs.Thin.{signs}
-use Rattle.flatten.specs.Walk.{IsMade, IsRefused, IsReady, Extends, joined_term}
+use Rattle.flatten.specs.State.Walk.{IsMade, IsRefused, IsReady, Extends, joined_term}
 use Rattle.flatten.proofs.Trees.{unrolled_links, unrolled-and, unrolled-xor}
 
 -- the expression of a chain's sign

@@ -10,7 +10,7 @@ use Rattle.flatten.specs.Unrolled.{Cell, Expression, cells, complement, conjunct
 use Rattle.flatten.specs.Rounds.{Environment, Operators, same_cell, whole, element_by_element, value_of, given, defined, round, rounds}
 use Rattle.flatten.specs.SourceCore.{term_operators}
 use Rattle.flatten.specs.Thin.{signs}
-use Rattle.flatten.specs.Walk.{Progress, waits, extended, held_by, taken_by, taken, taken_all, most_signs}
+use Rattle.flatten.specs.State.Walk.{Progress, waits, extended, held_by, taken_by, taken, taken_all, most_signs}
 
 -- what one environment defines, the other defines alike
 abbrev pub Below : {V : Type 0} → Environment V → Environment V → Type 0

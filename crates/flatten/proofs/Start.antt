@@ -16,7 +16,7 @@ use Rattle.flatten.proofs.Ordered.{same_cell-is, same_cell-itself}
 use Rattle.flatten.specs.SourceCore.{numbered_inputs}
 use Rattle.flatten.specs.Thin.{is_among, all_differ, assigned_cells}
 use Rattle.flatten.specs.Declarations.{declarations}
-use Rattle.flatten.specs.Walk.{slots_of, waits, first_held, IsStart}
+use Rattle.flatten.specs.State.Walk.{slots_of, waits, first_held, IsStart}
 use Rattle.flatten.proofs.Tables.{Table, cell_of, IsDeclared, declared-is, numbered-inside, numbered-outside, given-outside, declared-element, declared_cells-append, apart, and-parts, not-true-is}
 use Rattle.flatten.proofs.Thinness.{cases, among-append}
 

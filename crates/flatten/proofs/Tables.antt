@@ -14,7 +14,7 @@ use Rattle.flatten.specs.Unrolled.{Cell, declared_cells}
 use Rattle.flatten.specs.Rounds.{same_cell, given}
 use Rattle.flatten.specs.Thin.{is_among, all_differ}
 use Rattle.flatten.specs.Declarations.{declares_single_bit}
-use Rattle.flatten.specs.Walk.{with_name, declared_all, numbered_all}
+use Rattle.flatten.specs.State.Walk.{with_name, declared_all, numbered_all}
 
 abbrev pub Table : Type 0
 Table = List ℕ → Option (Option Reg)

@@ -18,7 +18,7 @@ use Rattle.flatten.specs.Unrolled.{Cell, Instance, both, cells_of, picked, cells
 use Rattle.flatten.specs.Rounds.{same_cell}
 use Rattle.flatten.specs.Thin.{signs}
 use Rattle.flatten.specs.Declarations.{declares_single_bit}
-use Rattle.flatten.specs.Walk.{with_name, declared_all, registers_of, slots_of, held_by, AllHeld, IsReady, IsMade, Extends, Progress, waits, extended, taken_by, taken, taken_all, taken_of, most_signs}
+use Rattle.flatten.specs.State.Walk.{with_name, declared_all, registers_of, slots_of, held_by, AllHeld, IsReady, IsMade, Extends, Progress, waits, extended, taken_by, taken, taken_all, taken_of, most_signs}
 use Rattle.flatten.proofs.Extends.{slots-extends, Holds-extends}
 
 pub on_ok : {T E : Type 0} {P Q : Type 0} (r : Result T E) → (P → Q) → OnOk r P → OnOk r Q

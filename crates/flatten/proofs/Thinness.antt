@@ -9,7 +9,7 @@ use Rattle.flatten.specs.Unrolled.{Cell, Expression, cells, complement, conjunct
 use Rattle.flatten.specs.Rounds.{Environment, same_cell, whole, element_by_element, value_of}
 use Rattle.flatten.specs.SourceCore.{term_operators}
 use Rattle.flatten.specs.Thin.{is_among, cells_read, signs, left_sides, are_single, times, all_signs, are_in_order}
-use Rattle.flatten.specs.Walk.{Progress, waits, extended, held_by, taken_by, taken, taken_all, most_signs}
+use Rattle.flatten.specs.State.Walk.{Progress, waits, extended, held_by, taken_by, taken, taken_all, most_signs}
 use Rattle.flatten.proofs.Ordered.{IsTaken, taken_all-cons, taken_all-below, taken-below, taken-defines, same_cell-is, same_cell-itself, waits-is}
 
 abbrev pub waiting : Option (Option Term) → ℕ

@@ -16,7 +16,7 @@ use Rattle.flatten.specs.Rounds.{same_cell, given, whole, rounds, outcome}
 use Rattle.flatten.specs.SourceCore.{term_operators, numbered_inputs, source_terms, core_of_node}
 use Rattle.flatten.specs.Thin.{is_among, assigned_cells, left_sides, times, IsThinNode}
 use Rattle.flatten.specs.Declarations.{declarations}
-use Rattle.flatten.specs.Walk.{IsStart, first_held, slots_of, held_by, waits, registers_of, Progress, taken_all, taken_of}
+use Rattle.flatten.specs.State.Walk.{IsStart, first_held, slots_of, held_by, waits, registers_of, Progress, taken_all, taken_of}
 use Rattle.flatten.proofs.Ordered.{both-parts, some_is, same_cell-is, same_cell-itself, in_order-rounds}
 use Rattle.flatten.proofs.Tables.{Table, cell_of, declared-is, and-parts, given-outside, declared_cells-append}
 use Rattle.flatten.proofs.Thinness.{waiting, counted, singly, signs-counted, ordered, complete, no_longer_waits, cases, among-append}
@@ -147,22 +147,17 @@ among-assigned node c among = parts (is_among (declared_cells node.outputs) c) (
     parts true b is = inl refl
     parts false b is = inr is
 
--- equations that were taken, after which each output and local has a register, are thin
-pub taken-thin : (node : Node) (table : Table) (start : IsStart node table) → node.inputs ≢ [] → node.outputs ≢ [] → length (declarations node) ≤ 1000
+-- equations that were taken, after which no output and no local waits, are thin
+pub taken-thin_by : (node : Node) (table : Table) (start : IsStart node table)
+    → node.inputs ≢ [] → node.outputs ≢ [] → length (declarations node) ≤ 1000
     → (equations : List Instance) → unrolled_items node.items ≡ Some equations
     → (last : Progress) → taken_all (first_progress node table) equations ≡ Some last
-    → (now : Table) (held : Held) → last.held ≡ slots_of now held
-    → (outputs locals : List Reg) → registers_of now node.outputs ≡ Some outputs → registers_of now node.locals ≡ Some locals
+    → ((c : Cell) → is_among (assigned_cells node) c ≡ true → waiting (last.held c) ≡ 0)
     → IsThinNode node equations
-taken-thin node table start some_in some_out few equations built last is now held same outputs locals has_outputs has_locals =
+taken-thin_by node table start some_in some_out few equations built last is done =
     let p = first_progress node table in
     let facts = declared-is (λ name. None) (declarations node) start.declared start.is_declared in
     let signs_are = signs-counted p equations last is in
-    let done : (c : Cell) → is_among (assigned_cells node) c ≡ true → waiting (last.held c) ≡ 0 = λ c among.
-    (elim (among-assigned node c among) as (λ s. waiting (last.held c) ≡ 0) [
-      | inl output ↦ ap (λ h. waiting (h c)) same ∙ registers-done now held node.outputs outputs has_outputs c output
-      | inr local ↦ ap (λ h. waiting (h c)) same ∙ registers-done now held node.locals locals has_locals c local
-    ]) in
     record {
       some_input = some_in;
       some_output = some_out;
@@ -195,9 +190,42 @@ taken-thin node table start some_in some_out few equations built last is now hel
     none_some : {A : Type 0} {x : A} → None ≡ Some x → ⊥
     none_some z = cc z
 
+-- equations that were taken, after which each output and local has a register, are thin
+pub taken-thin : (node : Node) (table : Table) (start : IsStart node table) → node.inputs ≢ [] → node.outputs ≢ [] → length (declarations node) ≤ 1000
+    → (equations : List Instance) → unrolled_items node.items ≡ Some equations
+    → (last : Progress) → taken_all (first_progress node table) equations ≡ Some last
+    → (now : Table) (held : Held) → last.held ≡ slots_of now held
+    → (outputs locals : List Reg) → registers_of now node.outputs ≡ Some outputs → registers_of now node.locals ≡ Some locals
+    → IsThinNode node equations
+taken-thin node table start some_in some_out few equations built last is now held same outputs locals has_outputs has_locals =
+    taken-thin_by node table start some_in some_out few equations built last is
+    (λ c among. (elim (among-assigned node c among) as (λ s. waiting (last.held c) ≡ 0) [
+      | inl output ↦ ap (λ h. waiting (h c)) same ∙ registers-done now held node.outputs outputs has_outputs c output
+      | inr local ↦ ap (λ h. waiting (h c)) same ∙ registers-done now held node.locals locals has_locals c local
+    ]))
+
 length-declared : (ds : List Decl) → length (declared_cells ds) ≡ length ds
 length-declared [] = refl
 length-declared (d ∷ ds) = ap suc (length-declared ds)
+
+-- the core of the source is that of the terms of its outputs
+pub taken-core_of : (node : Node) (table : Table) (start : IsStart node table)
+    → (equations : List Instance) → unrolled_items node.items ≡ Some equations
+    → (last : Progress) → taken_all (first_progress node table) equations ≡ Some last
+    → (outputs : List Term) → whole (map (held_by last.held) (declared_cells node.outputs)) ≡ Some outputs
+    → core_of_node node ≡ Some (core_of_terms 1 (length node.inputs) outputs)
+taken-core_of node table start equations built last is outputs in_end =
+    let p = first_progress node table in
+    let cells = declared_cells node.inputs in
+    let facts = declared-is (λ name. None) (declarations node) start.declared start.is_declared in
+    let begin : held_by p.held ≡ given cells (numbered_inputs 0 cells) = fun_ext (λ c. start-inputs node table start c) in
+    let reached = in_order-rounds p equations last is (declared_cells node.outputs) outputs in_end in
+    let terms : source_terms 1 node ≡ Some outputs =
+    ap (option_and_then (λ instances. outcome (term_operators 1) instances cells (numbered_inputs 0 cells) (declared_cells node.outputs))) built
+    ∙ ap (λ E. whole (map (rounds (term_operators 1) equations (length equations) E) (declared_cells node.outputs))) (sym begin) ∙ reached in
+    ap (λ b. if b then option_map (core_of_terms 1 (length cells)) (source_terms 1 node) else None) facts.single
+    ∙ ap (option_map (core_of_terms 1 (length cells))) terms
+    ∙ ap (λ n. Some (core_of_terms 1 n outputs)) (length-declared node.inputs)
 
 -- the core of the source is that of the output registers' terms
 pub taken-core : (node : Node) (table : Table) (start : IsStart node table)
@@ -207,19 +235,8 @@ pub taken-core : (node : Node) (table : Table) (start : IsStart node table)
     → (outputs : List Reg) → registers_of now node.outputs ≡ Some outputs
     → core_of_node node ≡ Some (core_of_terms 1 (length node.inputs) (map (term_of held) outputs))
 taken-core node table start equations built last is now held same outputs has =
-    let p = first_progress node table in
-    let cells = declared_cells node.inputs in
-    let facts = declared-is (λ name. None) (declarations node) start.declared start.is_declared in
-    let begin : held_by p.held ≡ given cells (numbered_inputs 0 cells) = fun_ext (λ c. start-inputs node table start c) in
-    let in_end : whole (map (held_by last.held) (declared_cells node.outputs)) ≡ Some (map (term_of held) outputs) =
-    ap (λ h. whole (map (held_by h) (declared_cells node.outputs))) same ∙ registers-terms now held node.outputs outputs has in
-    let reached = in_order-rounds p equations last is (declared_cells node.outputs) (map (term_of held) outputs) in_end in
-    let terms : source_terms 1 node ≡ Some (map (term_of held) outputs) =
-    ap (option_and_then (λ instances. outcome (term_operators 1) instances cells (numbered_inputs 0 cells) (declared_cells node.outputs))) built
-    ∙ ap (λ E. whole (map (rounds (term_operators 1) equations (length equations) E) (declared_cells node.outputs))) (sym begin) ∙ reached in
-    ap (λ b. if b then option_map (core_of_terms 1 (length cells)) (source_terms 1 node) else None) facts.single
-    ∙ ap (option_map (core_of_terms 1 (length cells))) terms
-    ∙ ap (λ n. Some (core_of_terms 1 n (map (term_of held) outputs))) (length-declared node.inputs)
+    taken-core_of node table start equations built last is (map (term_of held) outputs)
+    (ap (λ h. whole (map (held_by h) (declared_cells node.outputs))) same ∙ registers-terms now held node.outputs outputs has)
 
 given-input : (cells : List Cell) (k : ℕ) (c : Cell) (v : Term) → given cells (numbered_inputs k cells) c ≡ Some v → (j : ℕ) × (v ≡ Input j)
 given-input [] k c v at = absurd (none_some at)
@@ -233,13 +250,12 @@ given-input (x ∷ xs) k c v at =
     ]
 
 -- its subterms are few
-pub taken-small : (node : Node) (table : Table) (start : IsStart node table)
+pub taken-small_of : (node : Node) (table : Table) (start : IsStart node table)
     → (equations : List Instance) → unrolled_items node.items ≡ Some equations
     → (last : Progress) → taken_all (first_progress node table) equations ≡ Some last
-    → (now : Table) (held : Held) → last.held ≡ slots_of now held
-    → (outputs : List Reg) → registers_of now node.outputs ≡ Some outputs
-    → length (subterms (map (term_of held) outputs)) ≤ 10000
-taken-small node table start equations built last is now held same outputs has =
+    → (outputs : List Term) → whole (map (held_by last.held) (declared_cells node.outputs)) ≡ Some outputs
+    → length (subterms outputs) ≤ 10000
+taken-small_of node table start equations built last is outputs in_end =
     let p = first_progress node table in
     let signs_are = signs-counted p equations last is in
     omega (
@@ -248,6 +264,16 @@ taken-small node table start equations built last is now held same outputs has =
       signs_are.1 (omega arith),
       subterms-few p equations last is (items-single node.items equations built)
           (λ c v at. given-input (declared_cells node.inputs) 0 c v (sym (start-inputs node table start c) ∙ at))
-          (declared_cells node.outputs) (map (term_of held) outputs)
-          (ap (λ h. whole (map (held_by h) (declared_cells node.outputs))) same ∙ registers-terms now held node.outputs outputs has),
+          (declared_cells node.outputs) outputs in_end,
     )
+
+-- the subterms of the output registers' terms are few
+pub taken-small : (node : Node) (table : Table) (start : IsStart node table)
+    → (equations : List Instance) → unrolled_items node.items ≡ Some equations
+    → (last : Progress) → taken_all (first_progress node table) equations ≡ Some last
+    → (now : Table) (held : Held) → last.held ≡ slots_of now held
+    → (outputs : List Reg) → registers_of now node.outputs ≡ Some outputs
+    → length (subterms (map (term_of held) outputs)) ≤ 10000
+taken-small node table start equations built last is now held same outputs has =
+    taken-small_of node table start equations built last is (map (term_of held) outputs)
+    (ap (λ h. whole (map (held_by h) (declared_cells node.outputs))) same ∙ registers-terms now held node.outputs outputs has)

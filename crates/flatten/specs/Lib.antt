@@ -3,4 +3,4 @@ pub mod Unrolled
 pub mod Rounds
 pub mod SourceCore
 pub mod Thin
-pub mod Walk
+pub mod State

@@ -3,7 +3,7 @@ ghost use Rattle.std.specs.Option.{option_flatten};
 ghost use Rattle.usuba0.specs.Builder.{Holds, term_of};
 ghost use Rattle.usuba0.specs.Term.{not_term};
 ghost use Rattle.flatten.specs.Unrolled.{unrolled_expression};
-ghost use Rattle.flatten.specs.Walk.{register_at, environment, IsReady, Extends, IsMade, IsRefused, joined_term};
+ghost use Rattle.flatten.specs.State.Walk.{register_at, environment, IsReady, Extends, IsMade, IsRefused, joined_term};
 
 use crate::ThinFault;
 use crate::names::Names;

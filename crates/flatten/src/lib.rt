@@ -8,8 +8,6 @@ mod fault;
 mod names;
 mod node;
 mod source;
-#[cfg(test)]
-mod tests;
 
 pub use fault::ThinFault;
-pub use source::core_of;
+pub use source::{core_of, thin_files_have_cores};

@@ -1,6 +1,6 @@
 ghost use Rattle.std.specs.Prelude.{◌≡◌, ◌≢◌, ◌+◌, ◌<◌, ◌≤◌, ◌^◌, ◌&&◌, Some, None, is_none, length, IsTrue, IsFalse, OnOk, IfOk, false};
 ghost use Rattle.flatten.specs.Declarations.{is_single_bit as is_b1, declares_single_bit};
-ghost use Rattle.flatten.specs.Walk.{register_at, with_name, declared_all, numbered_all, registers_of};
+ghost use Rattle.flatten.specs.State.Walk.{register_at, with_name, declared_all, numbered_all, registers_of};
 
 use crate::ThinFault;
 use std::alloc::{AllocError, Global};

@@ -1,6 +1,6 @@
 ghost use Rattle.std.specs.Prelude.{◌≡◌, ◌≢◌, ℕ, ◌+◌, ◌<◌, ◌≤◌, ◌^◌, [], ◌∷◌, Some, None, length, MatchOption, IsTrue, IsFalse, OnOk, IfOk};
 ghost use Rattle.flatten.specs.Unrolled.{Cell, cells_of, cells_of_spots, unrolled_equation, unrolled_item, unrolled_items};
-ghost use Rattle.flatten.specs.Walk.{register_at, AllHeld, IsReady, Extends, progress, taken_of};
+ghost use Rattle.flatten.specs.State.Walk.{register_at, AllHeld, IsReady, Extends, progress, taken_of};
 
 use crate::ThinFault;
 use crate::expression::flatten;

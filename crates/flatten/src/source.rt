@@ -1,10 +1,11 @@
 ghost use Rattle.std.specs.Prelude.{◌≡◌, ℕ, ◌+◌, ◌<◌, ◌≤◌, ◌⊎◌, List, Some, None, length, IsTrue, IsFalse, IfOk, OnOk};
 ghost use Rattle.flatten.specs.Unrolled.{Instance};
-ghost use Rattle.usuba0.specs.Circuit.{IsSmall, HasFewColumns};
+ghost use Rattle.usuba0.specs.Circuit.{Circuit, IsSmall, HasFewColumns};
+ghost use Rattle.usuba_trees.specs.declared.File.{File};
 ghost use Rattle.flatten.specs.SourceCore.{core_of_node as core_of_the_node, core_of_source};
 ghost use Rattle.flatten.specs.Thin.{IsThin, IsThinNode};
 ghost use Rattle.flatten.specs.Declarations.{declarations};
-ghost use Rattle.flatten.specs.Walk.{register_at, declared_all, HasFitCounts, IsStart, IsAtEnd};
+ghost use Rattle.flatten.specs.State.Walk.{register_at, declared_all, HasFitCounts, IsStart, IsAtEnd};
 
 use crate::ThinFault;
 use crate::names::{Names, declare, number, registers};
@@ -101,3 +102,9 @@ pub fn core_of(alloc: Global, file: &File) -> Result<Core, ThinFault>
         _ => Err(ThinFault::NotBuilt),
     }
 }
+
+/// Each file is thin or not, and a thin file has a core, which is within both limits.
+pub fn thin_files_have_cores()
+    ensures decided { (file : File) → IsThin file ⊎ ¬ IsThin file }
+    ensures core { (file : File) → IsThin file → (core : Circuit) × (core_of_source file ≡ Some core) × IsSmall core × HasFewColumns core }
+{}

@@ -3,7 +3,7 @@ use Rattle.std.proofs.lemmas.List.{drop_all}
 use Rattle.usuba_trees.specs.declared.BitOp.TheVariants.{Or}
 use Rattle.flatten.specs.declared.fault.ThinFault.TheVariants.{NotBuilt}
 use Rattle.flatten.specs.Unrolled.{unrolled_expression}
-use Rattle.flatten.specs.Walk.{register_at, environment, IsRefused}
+use Rattle.flatten.specs.State.Walk.{register_at, environment, IsRefused}
 use Rattle.flatten.proofs.Trees.{unrolled-tuple_of_one, unrolled-tuple_of_none, unrolled-tuple_of_more, unrolled_links}
 use Rattle.flatten.proofs.Made.{refused-chained}
 use Rattle.flatten.proofs.Extends.{Extends-twice, Holds-extends, IsReady-extends}

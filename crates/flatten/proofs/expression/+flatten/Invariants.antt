@@ -1,6 +1,6 @@
 use Rattle.std.proofs.Common.{drop}
 use Rattle.flatten.specs.Unrolled.{unrolled_expression}
-use Rattle.flatten.specs.Walk.{register_at, environment}
+use Rattle.flatten.specs.State.Walk.{register_at, environment}
 use Rattle.flatten.proofs.Made.{SoFar}
 use Rattle.flatten.proofs.expression.+flatten.Given as goal
 

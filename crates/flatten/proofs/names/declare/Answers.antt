@@ -1,6 +1,6 @@
 use Rattle.std.proofs.Common.{◌≡◌, ◌+◌, sym, ◌∙◌, ap, arith, drop, Err}
 use Rattle.flatten.specs.declared.fault.ThinFault.TheVariants.{NotBuilt}
-use Rattle.flatten.specs.Walk.{register_at, declared_all}
+use Rattle.flatten.specs.State.Walk.{register_at, declared_all}
 use Rattle.flatten.proofs.Takes.{drop-next, declared-step, declared-stop}
 use Rattle.flatten.proofs.Errors.{passed_on}
 use Rattle.flatten.proofs.names.declare.Goals as goal

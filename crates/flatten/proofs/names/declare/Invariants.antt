@@ -1,5 +1,5 @@
 use Rattle.std.proofs.Common.{◌≡◌, drop}
-use Rattle.flatten.specs.Walk.{register_at, declared_all}
+use Rattle.flatten.specs.State.Walk.{register_at, declared_all}
 use Rattle.flatten.proofs.names.declare.Given as goal
 
 abbrev pub invariant-loop-declaration : goal.invariant-loop-declaration

@@ -1,7 +1,7 @@
 use Rattle.std.proofs.Common.{rules, ◌≡◌, ◌+◌, ◌++◌, [], ◌∷◌, Some, None, sym, ◌∙◌, ap, arith, drop}
 use Rattle.std.specs.Prelude.{option_map}
 use Rattle.std.specs.Option.{option_flatten}
-use Rattle.flatten.specs.Walk.{register_at, registers_of}
+use Rattle.flatten.specs.State.Walk.{register_at, registers_of}
 use Rattle.flatten.proofs.Takes.{drop-next, registers-step, registers-stop}
 use Rattle.flatten.proofs.names.registers.Goals as goal
 

@@ -1,6 +1,6 @@
 use Rattle.std.proofs.Common.{◌≡◌, ◌++◌, drop}
 use Rattle.std.specs.Prelude.{option_map}
-use Rattle.flatten.specs.Walk.{register_at, registers_of}
+use Rattle.flatten.specs.State.Walk.{register_at, registers_of}
 use Rattle.flatten.proofs.names.registers.Given as goal
 
 abbrev pub invariant-loop-declaration : goal.invariant-loop-declaration

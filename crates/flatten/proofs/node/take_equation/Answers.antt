@@ -1,6 +1,6 @@
 use Rattle.std.proofs.Common.{◌≡◌, ◌∙◌, refl, sym, ap, Some, None}
 use Rattle.flatten.specs.Unrolled.{cells_of, cells_of_spots}
-use Rattle.flatten.specs.Walk.{register_at}
+use Rattle.flatten.specs.State.Walk.{register_at}
 use Rattle.flatten.proofs.Takes.{on_ok, equation-taken, equation-ready}
 use Rattle.flatten.proofs.node.take_equation.Goals as goal
 

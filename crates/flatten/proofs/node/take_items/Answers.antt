@@ -1,7 +1,7 @@
 use Rattle.std.proofs.Common.{◌≡◌, ◌+◌, sym, ◌∙◌, ap, arith, drop, Err}
 use Rattle.flatten.specs.declared.fault.ThinFault.TheVariants.{NotBuilt}
 use Rattle.flatten.specs.Unrolled.{unrolled_items}
-use Rattle.flatten.specs.Walk.{progress, taken_of}
+use Rattle.flatten.specs.State.Walk.{progress, taken_of}
 use Rattle.flatten.proofs.Extends.{Extends-twice}
 use Rattle.flatten.proofs.Takes.{drop-next, item-step, item-stop}
 use Rattle.flatten.proofs.Errors.{passed_on}

@@ -1,6 +1,6 @@
 use Rattle.std.proofs.Common.{◌≡◌, drop}
 use Rattle.flatten.specs.Unrolled.{unrolled_items}
-use Rattle.flatten.specs.Walk.{register_at, IsReady, Extends, progress, taken_of}
+use Rattle.flatten.specs.State.Walk.{register_at, IsReady, Extends, progress, taken_of}
 use Rattle.flatten.proofs.node.take_items.Given as goal
 
 abbrev pub invariant-loop-item : goal.invariant-loop-item

@@ -6,7 +6,7 @@ use Rattle.usuba0.specs.declared.Reg.{Reg}
 use Rattle.usuba0.specs.Builder.{Holds, term_of}
 use Rattle.usuba0.specs.Circuit.{weight, columns}
 use Rattle.usuba0.specs.CoreOfTerms.{core_of_terms}
-use Rattle.flatten.specs.Walk.{register_at, registers_of}
+use Rattle.flatten.specs.State.Walk.{register_at, registers_of}
 use Rattle.flatten.proofs.Closing.{no-output, no-local, has-core, HasCore, length-registers, registers-held, few-outputs}
 use Rattle.flatten.proofs.source.closed.Goals as goal
 

@@ -3,7 +3,7 @@ use Rattle.flatten.specs.declared.fault.ThinFault.TheVariants.{NotBuilt}
 use Rattle.flatten.proofs.Errors.{passed_on}
 use Rattle.std.proofs.Common.{rules}
 use Rattle.flatten.specs.Unrolled.{unrolled_items}
-use Rattle.flatten.specs.Walk.{register_at, first_held, progress, taken_of}
+use Rattle.flatten.specs.State.Walk.{register_at, first_held, progress, taken_of}
 use Rattle.flatten.proofs.Closing.{start-ready, not-taken, at-end}
 use Rattle.flatten.proofs.source.core_of_node.Goals as goal
 

@@ -1,7 +1,7 @@
 use Rattle.std.proofs.Common.{◌≡◌, sym, ◌∙◌, ap, Some, None, Err}
 use Rattle.flatten.specs.declared.fault.ThinFault.TheVariants.{NotBuilt}
 use Rattle.flatten.proofs.Errors.{passed_on}
-use Rattle.flatten.specs.Walk.{register_at, declared_all}
+use Rattle.flatten.specs.State.Walk.{register_at, declared_all}
 use Rattle.flatten.proofs.Closing.{empty-table, declared-one, declared-two, declared-three}
 use Rattle.flatten.proofs.source.declared.Goals as goal
 

@@ -72,12 +72,12 @@ module _ {S : Type 0} {faults : S → ℕ} {written : S → Option (List ℕ)} w
   Wrote-is {T} {old} {new} {a} {b} {q} same = subst (λ (text : List ℕ). Wrote {T = T} faults written old new text q) same
 
 -- the texts of the items before i and of that at i are those of the items up to i
-texts_to : {X : Type 0} (f : X → List ℕ) (items : List X) (i : ℕ) (d : X) → i < length items
+pub texts_to : {X : Type 0} (f : X → List ℕ) (items : List X) (i : ℕ) (d : X) → i < length items
     → flat_map f (take i items) ++ f (get_or items i d) ≡ flat_map f (take (i + 1) items)
 texts_to f items i d within = flat_map_more f [] (take i items) (get_or items i d) ∙ ap (flat_map f) (sym (take_more items i d within))
 
 -- the texts of the items before i, of that at i, and of those after it are the texts of them all
-texts_around : {X : Type 0} (f : X → List ℕ) (items : List X) (i : ℕ) (d : X) → i < length items
+pub texts_around : {X : Type 0} (f : X → List ℕ) (items : List X) (i : ℕ) (d : X) → i < length items
     → flat_map f (take i items) ++ (f (get_or items i d) ++ flat_map f (drop (i + 1) items)) ≡ flat_map f items
 texts_around f items i d within =
     sym (flat_map-append f (take i items) (get_or items i d ∷ drop (i + 1) items))

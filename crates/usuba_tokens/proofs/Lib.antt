@@ -4,3 +4,4 @@ pub mod HeadLemmas
 pub mod PlaceLemmas
 pub mod SpellingLemmas
 pub mod LongestLemmas
+pub mod GapLemmas

@@ -4,3 +4,4 @@ pub mod Words
 pub mod Heads
 pub mod Tokens
 pub mod Longest
+pub mod Gaps

@@ -1,10 +1,11 @@
 //! The tokens of a text.
 
-ghost use Rattle.std.specs.Prelude.{◌≡◌, ◌≤◌, ◌<◌, ◌+◌, ◌^◌, ◌⊎◌, ℕ, List, length, IfOk};
+ghost use Rattle.std.specs.Prelude.{◌≡◌, ◌≤◌, ◌<◌, ◌+◌, ◌^◌, ◌⊎◌, ◌++◌, ◌↔◌, ℕ, List, length, take, drop, IfOk};
 ghost use Rattle.std.specs.Str.{IsAscii};
 ghost use Rattle.tor_edge.specs.declared.place.Place.{Place};
 ghost use Rattle.usuba_tokens.specs.declared.token.Ending.{Ending};
 ghost use Rattle.usuba_tokens.specs.declared.token.Token.{Token};
+ghost use Rattle.usuba_tokens.specs.Gaps.{IsGap};
 ghost use Rattle.usuba_tokens.specs.Heads as heads;
 ghost use Rattle.usuba_tokens.specs.Longest as longest;
 ghost use Rattle.usuba_tokens.specs.Tokens as tokens;
@@ -109,4 +110,12 @@ pub fn tokens_are_longest()
 pub fn broken_texts_have_a_cause()
     ensures { (text : List ℕ) → heads.head_of text ≡ Head.Broken
         → longest.IsUnclosed text ⊎ (longest.IsSpoiled text ⊎ longest.BeginsNone text) }
+{}
+
+/// What stands between tokens is one blank or a whole comment after another, and these hold no token: where one stands
+/// before a text, the tokens are those of the text.
+pub fn gaps_hold_no_token()
+    ensures found { (text : List ℕ) (n : ℕ) → heads.head_of text ≡ Head.Gap n → IsGap (take n text) (drop n text) }
+    ensures passed { (at : Place) (gap after : List ℕ) (found : List Token) (ending : Ending) → IsGap gap after
+        → tokens.Spells at (gap ++ after) found ending ↔ tokens.Spells (tokens.place_after at gap) after found ending }
 {}

@@ -7,8 +7,8 @@ use Rattle.std.specs.Bool.{beq}
 use Rattle.std.specs.Option.{option_map_or}
 use Rattle.span_model.specs.Columns.{Columns, empty, ◌△◌}
 use Rattle.span_model.specs.Span.{InSpan}
-use Rattle.span_model.specs.Attack.{Product, Probe, IsProbe, product_at, shown, seen, IsAttack}
-use Rattle.span_model.specs.Renaming.{named_in, renamed_product, renamed, IsCovered}
+use Rattle.span_model.specs.Attack.{Product, Probe, IsProbe, product_at, shown, seen, IsAttack, HasAttack}
+use Rattle.span_model.specs.Renaming.{named_in, renamed_product, renamed, AreRenamed, renumbered, IsCovered}
 use Rattle.span_model.proofs.Members.{empty_in, in_as, in_none, in_cases, in_sum, in_head, in_later, in_parts, in_behind, in_front}
 
 module _ {C : Type 0} where
@@ -55,6 +55,22 @@ module _ {C : Type 0} where
       (throughout_if P linear (product_at products probe.product).right _ (λ _. right probe.product)))
       (throughout_seen P linear products left right probes s)
 
+below : (k m n : ℕ) → k < m → m ≤ n → k < n
+below k m n lt le = omega arith
+
+renumbered_same : (probes : List Probe) → map (renumbered (λ k. k)) probes ≡ probes
+renumbered_same [] = refl
+renumbered_same (probe ∷ probes) = ap (λ (rest : List Probe). probe ∷ rest) (renumbered_same probes)
+
+-- probes of products are probes of those that have their numbers
+within_to : (n m t : ℕ) (number : ℕ → ℕ) → ((k : ℕ) → k < n → number k < m) → (probes : List Probe) → All (IsProbe n t) probes
+    → All (IsProbe m t) (map (renumbered number) probes)
+within_to n m t number there [] h k d lt = absurd (omega arith)
+within_to n m t number there (probe ∷ probes) h zero d lt =
+    let p = h 0 probe (omega arith) in record { product = there probe.product p.product; left_share = p.left_share; right_share = p.right_share }
+within_to n m t number there (probe ∷ probes) h (suc k) d lt =
+    within_to n m t number there probes (λ j e below. h (suc j) e (suc-le-suc below)) k d (le_of_suc-le-suc lt)
+
 named_sum : {C : Type 0} (v w : Columns C) (o : Option C) → option_map_or (v △ w) o false ≡ not (beq (option_map_or v o false) (option_map_or w o false))
 named_sum v w None = refl
 named_sum v w (Some column) = refl
@@ -100,48 +116,64 @@ module _ {C D : Type 0} where
   carries_both f keeps a b x y h k = throughout_both (λ v. InSpan (x ++ y) (f v)) (carried_linear f keeps (x ++ y)) a b
       (λ v m. in_behind x y (f v) (h v m)) (λ v m. in_front x y (f v) (k v m))
 
+  -- each operand of the products is carried into that of one of a number among the others
+  pub record CarriesTo (f : Columns C → Columns D) (number : ℕ → ℕ) (products : List (Product C)) (others : List (Product D)) : Type 0 where
+    pub there : (k : ℕ) → k < length products → number k < length others
+    pub left : (k : ℕ) → k < length products → Carries f (product_at products k).left (product_at others (number k)).left
+    pub right : (k : ℕ) → k < length products → Carries f (product_at products k).right (product_at others (number k)).right
+
+  carries_seen : (f : Columns C → Columns D) → Keeps f → (number : ℕ → ℕ) (products : List (Product C)) (others : List (Product D))
+      → CarriesTo f number products others → (t : ℕ) (probes : List Probe) → All (IsProbe (length products) t) probes → (s : ℕ)
+      → Carries f (seen products probes s) (seen others (map (renumbered number) probes) s)
+  carries_seen f keeps number products others all t [] within s = throughout_none _ (carried_linear f keeps [])
+  carries_seen f keeps number products others all t (probe ∷ probes) within s =
+      let here : probe.product < length products = (within 0 probe (omega arith)).product in
+      carries_both f keeps (shown products probe s) (seen products probes s) (shown others (renumbered number probe) s) (seen others (map (renumbered number) probes) s)
+      (carries_both f keeps _ _ _ _
+      (carries_if f keeps (product_at products probe.product).left (product_at others (number probe.product)).left _ (all.left probe.product here))
+      (carries_if f keeps (product_at products probe.product).right (product_at others (number probe.product)).right _ (all.right probe.product here)))
+      (carries_seen f keeps number products others all t probes (λ k d lt. within (suc k) d (suc-le-suc lt)) s)
+
+  -- the attack carries over with other numbers, where the leak does not vanish
+  pub attack_carried_to : (f : Columns C → Columns D) → Keeps f → (number : ℕ → ℕ) (products : List (Product C)) (others : List (Product D))
+      → CarriesTo f number products others → (t : ℕ) (leak : Columns C) (probes : List Probe) → IsAttack products t leak probes → f leak ≢ empty
+      → IsAttack others t (f leak) (map (renumbered number) probes)
+  attack_carried_to f keeps number products others all t leak probes attack nonempty = record {
+    count = length-map probes (renumbered number) ∙ attack.count;
+    within = within_to (length products) (length others) t number all.there probes attack.within;
+    nonempty = nonempty;
+    spanned = λ s le. carries_seen f keeps number products others all t probes attack.within s leak (attack.spanned s le);
+  }
+
   -- each operand of the products is carried into that of the others
   pub record CarriesAll (f : Columns C → Columns D) (products : List (Product C)) (others : List (Product D)) : Type 0 where
     pub count : length products ≤ length others
     pub left : (k : ℕ) → k < length products → Carries f (product_at products k).left (product_at others k).left
     pub right : (k : ℕ) → k < length products → Carries f (product_at products k).right (product_at others k).right
 
-  carries_seen : (f : Columns C → Columns D) → Keeps f → (products : List (Product C)) (others : List (Product D)) → CarriesAll f products others
-      → (t : ℕ) (probes : List Probe) → All (IsProbe (length products) t) probes → (s : ℕ) → Carries f (seen products probes s) (seen others probes s)
-  carries_seen f keeps products others all t [] within s = throughout_none _ (carried_linear f keeps [])
-  carries_seen f keeps products others all t (probe ∷ probes) within s =
-      let here : probe.product < length products = (within 0 probe (omega arith)).product in
-      carries_both f keeps (shown products probe s) (seen products probes s) (shown others probe s) (seen others probes s)
-      (carries_both f keeps _ _ _ _
-      (carries_if f keeps (product_at products probe.product).left (product_at others probe.product).left _ (all.left probe.product here))
-      (carries_if f keeps (product_at products probe.product).right (product_at others probe.product).right _ (all.right probe.product here)))
-      (carries_seen f keeps products others all t probes (λ k d lt. within (suc k) d (suc-le-suc lt)) s)
-
   -- the attack carries over, where the leak does not vanish
   pub attack_carried : (f : Columns C → Columns D) → Keeps f → (products : List (Product C)) (others : List (Product D)) → CarriesAll f products others
       → (t : ℕ) (leak : Columns C) (probes : List Probe) → IsAttack products t leak probes → f leak ≢ empty → IsAttack others t (f leak) probes
-  attack_carried f keeps products others all t leak probes attack nonempty = record {
-    count = attack.count;
-    within = λ k d lt. (let p = attack.within k d lt in let le : length products ≤ length others = all.count in
-        record { product = omega (arith, p.product); left_share = p.left_share; right_share = p.right_share });
-    nonempty = nonempty;
-    spanned = λ s le. carries_seen f keeps products others all t probes attack.within s leak (attack.spanned s le);
-  }
+  attack_carried f keeps products others all t leak probes attack nonempty =
+      let to : CarriesTo f (λ k. k) products others =
+      record { there = λ k lt. below k (length products) (length others) lt all.count; left = all.left; right = all.right } in
+      subst (λ (p : List Probe). IsAttack others t (f leak) p) (renumbered_same probes)
+      (attack_carried_to f keeps (λ k. k) products others to t leak probes attack nonempty)
 
   -- the span of an operand is carried into that of one that covers it
-  pub covered_carries : (name : D → Option C) (products : List (Product C)) (others : List (Product D)) → IsCovered name products others
-      → CarriesAll (named_in name) products others
-  covered_carries name products others covered = record {
-    count = covered.count;
+  pub covered_carries : (name : D → Option C) (number : ℕ → ℕ) (products : List (Product C)) (others : List (Product D))
+      → IsCovered name number products others → CarriesTo (named_in name) number products others
+  covered_carries name number products others covered = record {
+    there = covered.there;
     left = λ k lt v m. covered.left k lt (named_in name v) (carries_map (named_in name) (named_keeps name) (product_at products k).left v m);
     right = λ k lt v m. covered.right k lt (named_in name v) (carries_map (named_in name) (named_keeps name) (product_at products k).right v m);
   }
 
-  pub covered_attacks : (name : D → Option C) (products : List (Product C)) (others : List (Product D)) → IsCovered name products others
-      → (t : ℕ) (leak : Columns C) (probes : List Probe) → IsAttack products t leak probes → named_in name leak ≢ empty
-      → IsAttack others t (named_in name leak) probes
-  covered_attacks name products others covered =
-      attack_carried (named_in name) (named_keeps name) products others (covered_carries name products others covered)
+  pub covered_attacks : (name : D → Option C) (number : ℕ → ℕ) (products : List (Product C)) (others : List (Product D))
+      → IsCovered name number products others → (t : ℕ) (leak : Columns C) (probes : List Probe) → IsAttack products t leak probes
+      → named_in name leak ≢ empty → IsAttack others t (named_in name leak) (map (renumbered number) probes)
+  covered_attacks name number products others covered =
+      attack_carried_to (named_in name) (named_keeps name) number products others (covered_carries name number products others covered)
 
   -- the product of a number, renamed
   pub renamed_at : (name : D → Option C) (products : List (Product C)) (k : ℕ)
@@ -205,3 +237,12 @@ module _ {C D : Type 0} where
       subst (λ (xs : List (Product D)). IsAttack xs t (named_in name leak) probes) there
       (attack_carried (named_in name) (named_keeps name) products (renamed name products) (renamed_carries name products) t leak probes attack
       (λ vanishes. attack.nonempty (sym same ∙ ap (named_in back) vanishes ∙ (named_keeps back).at_empty)))
+
+module _ {C D : Type 0} where
+  -- products that are renamed have an attack exactly where the others have one
+  pub renamed_have : (products : List (Product C)) (others : List (Product D)) → AreRenamed products others
+      → (HasAttack products → HasAttack others) × (HasAttack others → HasAttack products)
+  renamed_have products others names = (
+    λ h. (named_in names.name h.0, (h.1.0, h.1.1, renamed_attacks names.name names.back products others names.there names.again h.1.0 h.0 h.1.1 h.1.2)),
+    λ h. (named_in names.back h.0, (h.1.0, h.1.1, renamed_attacks names.back names.name others products names.again names.there h.1.0 h.0 h.1.1 h.1.2)),
+  )

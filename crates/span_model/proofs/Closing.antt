@@ -4,7 +4,7 @@ use Rattle.span_model.specs.Columns.{Columns}
 use Rattle.span_model.specs.Span.{InSpan, Spans}
 use Rattle.span_model.specs.Attack.{Product, Probe, IsProbe, product_at, shown, seen, IsAttack}
 use Rattle.span_model.specs.Closure.{Step, on_left, on_right, operand, co_operand, co_operands, IsChain, IsClosed}
-use Rattle.span_model.proofs.Members.{spans_none, spans_both, in_behind, in_front}
+use Rattle.span_model.proofs.Members.{spans_none, spans_both, spans_follow, in_behind, in_front}
 use Rattle.span_model.proofs.Touches.{one_true, hits, touches, IsDistinct, Untouched, untouched, rest_distinct, rest_within, rest_other, share_within, all_shares, length-all_shares, all_distinct, all_within}
 
 -- each probe is of one of so many products
@@ -26,9 +26,6 @@ module _ {C : Type 0} where
 
   spans_self : (rows : List (Columns C)) → Spans rows rows
   spans_self rows v m = m
-
-  spans_follow : (a b c : List (Columns C)) → Spans a b → Spans b c → Spans a c
-  spans_follow a b c h k v m = h v (k v m)
 
   -- the probes with the one that touches the share taken away: it is a step
   record Once (products : List (Product C)) (s : ℕ) (probes : List Probe) : Type 0 where

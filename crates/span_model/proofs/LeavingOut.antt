@@ -1,4 +1,4 @@
--- A product whose left operand is refreshed takes part in no attack, so it can as well be left out.
+-- With left operands refreshed there is an attack exactly where there is one without their products.
 use Rattle.std.proofs.Common.{◌≡◌, ◌<◌, ◌+◌, ◌⊎◌, inl, inr, ℕ, zero, suc, Bool, true, false, cond, List, [], ◌∷◌, ◌++◌, length, map, refl, sym, ap, ◌∙◌, subst, arith}
 use mathlib.Core.Path.{fun_ext}
 use Rattle.span_model.specs.Columns.{Columns, empty, ◌△◌}

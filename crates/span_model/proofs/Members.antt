@@ -100,6 +100,10 @@ module _ {C : Type 0} where
   pub spans_both : (rows a b : List (Columns C)) → Spans rows a → Spans rows b → Spans rows (a ++ b)
   spans_both rows a b h k v m = let p = in_parts a b v m in in_as rows p.4 (in_sum rows p.0 p.1 (h p.0 p.2) (k p.1 p.3))
 
+  -- to span is transitive
+  pub spans_follow : (a b c : List (Columns C)) → Spans a b → Spans b c → Spans a c
+  spans_follow a b c h k v m = h v (k v m)
+
   -- a set that needs a row can take the row's place
   pub in_exchange : (row : Columns C) (rows : List (Columns C)) (v : Columns C) → InSpan (row ∷ rows) v
       → InSpan rows v ⊎ (InSpan rows (v △ row) × InSpan (v ∷ rows) row)

@@ -6,6 +6,7 @@ use Rattle.span_model.specs.Span.{InSpan, Spans}
 use Rattle.span_model.specs.Attack.{Product, Probe, IsProbe, product_at, shown, seen, IsLeak}
 use Rattle.span_model.specs.Closure.{Step, Side, on_left, on_right, operand, co_operand, co_operands, IsChain, IsClosed}
 use Rattle.span_model.proofs.Members.{spans_none, spans_both, in_behind, in_front}
+use Rattle.span_model.proofs.Probing.{AllBelow, below_more, below-append, below_within, seen_first, seen_second}
 use Rattle.span_model.proofs.Closing.{attack_closes}
 
 -- how many probes the uses of steps unfold to
@@ -33,25 +34,6 @@ length-unfolded (step ∷ before) user new =
     let a = length-unfolded before new (suc new) in
     let b = length-unfolded before user (suc new + size before) in
     omega (arith, length-append (unfolded before new (suc new)) (unfolded before user (suc new + size before)))
-
--- each probe is of one of so many products, on shares below a bound
-abbrev AllBelow : ℕ → ℕ → List Probe → Type 0
-AllBelow n bound [] = Unit {0}
-AllBelow n bound (probe ∷ probes) =
-    ((probe.product < n) × (probe.left_share < bound) × (probe.right_share < bound)) × AllBelow n bound probes
-
-below_more : (n bound more : ℕ) (probes : List Probe) → bound ≤ more → AllBelow n bound probes → AllBelow n more probes
-below_more n bound more [] le h = tt
-below_more n bound more (probe ∷ probes) le h = ((h.0.0, omega (arith, h.0.1), omega (arith, h.0.2)), below_more n bound more probes le h.1)
-
-below-append : (n bound : ℕ) (a b : List Probe) → AllBelow n bound a → AllBelow n bound b → AllBelow n bound (a ++ b)
-below-append n bound [] b h k = k
-below-append n bound (probe ∷ a) b h k = (h.0, below-append n bound a b h.1 k)
-
-below_within : (n t : ℕ) (probes : List Probe) → AllBelow n (suc t) probes → All (IsProbe n t) probes
-below_within n t [] h k d lt = absurd (omega arith)
-below_within n t (probe ∷ probes) h zero d lt = record { product = h.0.0; left_share = omega (arith, h.0.1); right_share = omega (arith, h.0.2) }
-below_within n t (probe ∷ probes) h (suc k) d lt = below_within n t probes h.1 k d (le_of_suc-le-suc lt)
 
 use_below : (n k : ℕ) (side : Side) (new user bound : ℕ) → k < n → new < bound → user < bound
     → AllBelow n bound (use_of (record { product = k; side = side }) new user ∷ [])
@@ -82,16 +64,6 @@ module _ {C : Type 0} where
       in_front (cond (eqb new user) (product_at products k).left []) _ v (spans_shown (product_at products k).right (eqb user user) (eq-eqb user user refl) v m)
   user_shows products k on_right new user v m =
       in_behind _ _ v (spans_shown (product_at products k).left (eqb user user) (eq-eqb user user refl) v m)
-
-  seen_first : (products : List (Product C)) (a b : List Probe) (s : ℕ) → Spans (seen products (a ++ b) s) (seen products a s)
-  seen_first products [] b s = spans_none (seen products b s)
-  seen_first products (probe ∷ a) b s = spans_both (seen products (probe ∷ (a ++ b)) s) (shown products probe s) (seen products a s)
-      (in_behind (shown products probe s) (seen products (a ++ b) s))
-      (λ v m. in_front (shown products probe s) (seen products (a ++ b) s) v (seen_first products a b s v m))
-
-  seen_second : (products : List (Product C)) (a b : List Probe) (s : ℕ) → Spans (seen products (a ++ b) s) (seen products b s)
-  seen_second products [] b s v m = m
-  seen_second products (probe ∷ a) b s v m = in_front (shown products probe s) (seen products (a ++ b) s) v (seen_second products a b s v m)
 
   -- what the probes of used steps show
   record Shows (products : List (Product C)) (leak : Columns C) (steps : List Step) (user new : ℕ) (probes : List Probe) : Type 0 where

@@ -9,3 +9,4 @@ pub mod SpanLaws
 pub mod AttackLaws
 pub mod RefreshLaws
 pub mod Cases
+pub mod Bounds

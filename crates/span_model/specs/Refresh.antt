@@ -56,7 +56,7 @@ abbrev pub left_out_from : {C : Type 0} → ℕ → (ℕ → Bool) → List (Pro
 left_out_from k set [] = []
 left_out_from k set (product ∷ products) = (if set k then record { left = []; right = [] } else product) ∷ left_out_from (suc k) set products
 
--- the products, with no rows left of each product of the set: such a product takes part in no attack
+-- the products without those of the set: each of these has no rows any more, and the others keep their numbers
 abbrev pub left_out : {C : Type 0} → (ℕ → Bool) → List (Product C) → List (Product C)
 left_out set products = left_out_from 0 set products
 

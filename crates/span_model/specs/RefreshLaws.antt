@@ -1,16 +1,17 @@
 -- The laws of attacks on products whose columns are renamed, set to zero, or added by a refresh.
-use Rattle.std.specs.Prelude.{◌≡◌, ◌≢◌, ◌<◌, ◌↔◌, ℕ, Bool, true, false, List, length, Option}
+use Rattle.std.specs.Prelude.{◌≡◌, ◌≢◌, ◌<◌, ◌↔◌, ℕ, Bool, true, false, List, map, length, Option}
 use Rattle.span_model.specs.Columns.{Columns, empty}
 use Rattle.span_model.specs.Attack.{Product, Probe, IsAttack, IsLeak, HasAttack}
-use Rattle.span_model.specs.Renaming.{named_in, renamed, IsCovered}
+use Rattle.span_model.specs.Renaming.{named_in, renamed, AreRenamed, renumbered, IsCovered}
 use Rattle.span_model.specs.Refresh.{RefreshedColumn, added, refreshed, IsWithin, without, left_out, IsRepairSet, IsOnLeftAlone, IsLeftFresh}
 
--- probes that attack products attack products that cover them, with the leak as it is read by the names, where this is not empty
+-- probes that attack products attack, with the numbers of the covering ones, products that cover them, with the leak as it is read by the names,
+-- where this is not empty
 abbrev pub AttackCarriesOver : (C D : Type 0) → Type 0
 AttackCarriesOver C D =
-    (name : D → Option C) (products : List (Product C)) (others : List (Product D)) → IsCovered name products others
+    (name : D → Option C) (number : ℕ → ℕ) (products : List (Product C)) (others : List (Product D)) → IsCovered name number products others
     → (t : ℕ) (leak : Columns C) (probes : List Probe) → IsAttack products t leak probes → named_in name leak ≢ empty
-    → IsAttack others t (named_in name leak) probes
+    → IsAttack others t (named_in name leak) (map (renumbered number) probes)
 
 -- products whose columns only have other names have the same attacks
 abbrev pub RenamingKeepsAttacks : (C D : Type 0) → Type 0
@@ -18,6 +19,17 @@ RenamingKeepsAttacks C D =
     (name : D → Option C) (back : C → Option D) (products : List (Product C)) (others : List (Product D))
     → renamed name products ≡ others → renamed back others ≡ products
     → (t : ℕ) (leak : Columns C) (probes : List Probe) → IsAttack products t leak probes → IsAttack others t (named_in name leak) probes
+
+-- products whose columns only have other names than those of refreshed products have the attacks of these
+pub record RefreshedUnderNames (C D : Type 0) : Type 0 where
+  pub attack : (products : List (Product C)) (set : ℕ → Bool) (others : List (Product D)) → AreRenamed (refreshed set products) others
+      → HasAttack (refreshed set products) ↔ HasAttack others
+  pub probes : (products : List (Product C)) (set : ℕ → Bool) (others : List (Product D)) (names : AreRenamed (refreshed set products) others)
+      → (t : ℕ) (leak : Columns (RefreshedColumn C)) (probes : List Probe) → IsAttack (refreshed set products) t leak probes
+      → IsAttack others t (named_in names.name leak) probes
+  pub again : (products : List (Product C)) (set : ℕ → Bool) (others : List (Product D)) (names : AreRenamed (refreshed set products) others)
+      → (t : ℕ) (leak : Columns D) (probes : List Probe) → IsAttack others t leak probes
+      → IsAttack (refreshed set products) t (named_in names.back leak) probes
 
 -- no leak holds a column that is on left operands alone
 abbrev pub LeftColumnsDoNotLeak : Type 0 → Type 0
@@ -44,7 +56,7 @@ AllRefreshedIsSecure C =
 abbrev pub NoneRefreshedIsSame : Type 0 → Type 0
 NoneRefreshedIsSame C = (products : List (Product C)) → HasAttack (refreshed (λ _. false) products) ↔ HasAttack products
 
--- with a set refreshed there is an attack exactly where the products have one that are left when the set is left out
+-- with a set refreshed there is an attack exactly where there is one without the products of the set
 abbrev pub RefreshedIsLeftOut : Type 0 → Type 0
 RefreshedIsLeftOut C =
     (products : List (Product C)) (set : ℕ → Bool) → HasAttack (refreshed set products) ↔ HasAttack (left_out set products)

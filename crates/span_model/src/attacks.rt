@@ -1,4 +1,5 @@
 ghost use Rattle.span_model.specs.AttackLaws.{AttackGivesClosure, ClosureGivesAttack, LeaksAreClosed};
+ghost use Rattle.span_model.specs.Bounds.{ClosuresStayInBounds};
 
 /// The leak of an attack is closed.
 pub fn attack_gives_closure<C>()
@@ -13,4 +14,9 @@ pub fn closure_gives_attack<C>()
 /// The leaks of attacks are exactly the closed sets that are not empty.
 pub fn leaks_are_closed<C>()
     ensures { LeaksAreClosed C }
+{}
+
+/// The closures of sets whose steps are bounded stay in the bound.
+pub fn closures_stay_in_bounds<C>()
+    ensures { ClosuresStayInBounds C }
 {}

@@ -8,15 +8,16 @@ mod attacks;
 mod cases;
 mod refreshes;
 mod spans;
-#[cfg(test)]
-mod tests;
 
-pub use attacks::{attack_gives_closure, closure_gives_attack, leaks_are_closed};
+pub use attacks::{
+    attack_gives_closure, closure_gives_attack, closures_stay_in_bounds, leaks_are_closed,
+};
 pub use cases::known_cases;
 pub use refreshes::{
     added_columns_do_not_leak, all_refreshed_is_secure, attack_carries_over,
     attack_stays_with_fewer, fresh_lefts_are_secure, left_columns_do_not_leak, needed_stays_needed,
-    none_refreshed_is_same, refreshed_is_left_out, renaming_keeps_attacks, repair_set_is_least,
+    none_refreshed_is_same, refreshed_is_left_out, refreshed_under_names, renaming_keeps_attacks,
+    repair_set_is_least,
 };
 pub use spans::{
     at_most_as_columns, members_and_sums, rank_is_length, rows_exchange, spans_follow, spans_grow,

@@ -1,8 +1,8 @@
-ghost use Rattle.span_model.specs.RefreshLaws.{AttackCarriesOver, RenamingKeepsAttacks, LeftColumnsDoNotLeak, FreshLeftsAreSecure};
+ghost use Rattle.span_model.specs.RefreshLaws.{AttackCarriesOver, RenamingKeepsAttacks, RefreshedUnderNames, LeftColumnsDoNotLeak, FreshLeftsAreSecure};
 ghost use Rattle.span_model.specs.RefreshLaws.{AddedColumnsDoNotLeak, AllRefreshedIsSecure, NoneRefreshedIsSame, RefreshedIsLeftOut};
 ghost use Rattle.span_model.specs.RefreshLaws.{AttackStaysWithFewer, NeededStaysNeeded, RepairSetIsLeast};
 
-/// An attack carries over to products that cover the attacked ones.
+/// An attack carries over to products that cover the attacked ones, which may have other numbers.
 pub fn attack_carries_over<C, D>()
     ensures { AttackCarriesOver C D }
 {}
@@ -10,6 +10,11 @@ pub fn attack_carries_over<C, D>()
 /// Products keep their attacks where their columns get other names.
 pub fn renaming_keeps_attacks<C, D>()
     ensures { RenamingKeepsAttacks C D }
+{}
+
+/// Refreshed products keep their attacks where their columns get names of another kind.
+pub fn refreshed_under_names<C, D>()
+    ensures { RefreshedUnderNames C D }
 {}
 
 /// No leak holds a column that is on left operands alone.
@@ -37,7 +42,7 @@ pub fn none_refreshed_is_same<C>()
     ensures { NoneRefreshedIsSame C }
 {}
 
-/// A product whose left operand is refreshed takes part in no attack.
+/// With a set of left operands refreshed there is an attack exactly where there is one without the products of the set.
 pub fn refreshed_is_left_out<C>()
     ensures { RefreshedIsLeftOut C }
 {}

@@ -1,4 +1,4 @@
-use Rattle.span_model.proofs.SmallCases.{one_probe, repaired, secure, two_probes, share_moved, other_leak, empty_leak}
+use Rattle.span_model.proofs.SmallCases.{one_probe, repaired, secure, two_probes, share_moved, other_leak, empty_leak, two_rows, one_row, repair, no_repair, nothing_to_repair, needless_repair, second_of_two, both_of_two}
 use Rattle.span_model.proofs.cases.known_cases.Goals as goal
 
 pub returns : goal.returns
@@ -10,4 +10,12 @@ returns c = record {
   share_moved = share_moved;
   other_leak = other_leak;
   empty_leak = empty_leak;
+  two_rows = two_rows;
+  one_row = one_row;
+  repair = repair;
+  no_repair = no_repair;
+  nothing_to_repair = nothing_to_repair;
+  needless_repair = needless_repair;
+  second_of_two = second_of_two;
+  both_of_two = both_of_two;
 }

@@ -21,6 +21,16 @@ pub length-bits : (columns : ℕ) (words : List ℕ) → length (bits_of columns
 unfolding bits_of
 length-bits columns words = length-map-range_with_len (is_set words) 0 columns
 
+-- rows with as many bits have as many columns
+pub as_long : (a b : ℕ) (words others : List ℕ) → length (bits_of a words) ≡ length (bits_of b others) → a ≡ b
+as_long a b words others same = sym (length-bits a words) ∙ same ∙ length-bits b others
+
+-- what is known of the words of one row, at the columns of another one with as many bits
+pub other_padded : (a b : ℕ) (words others : List ℕ) → length (bits_of a words) ≡ length (bits_of b others)
+    → IsPadded b others → IsPadded a others
+other_padded a b words others same padded = let P : ℕ
+    → Type 0 = λ n. IsPadded n others in subst P (sym (as_long a b words others same)) padded
+
 pub bit-bits : (columns : ℕ) (words : List ℕ) → IsPadded columns words → (c : ℕ) → get_or (bits_of columns words) c false ≡ is_set words c
 unfolding bits_of
 bit-bits columns words padded c = elim (cases_lt c columns) [

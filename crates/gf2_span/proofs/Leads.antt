@@ -1,5 +1,6 @@
 -- Greatest columns, and what rows with different ones span.
-use Rattle.std.proofs.Common.{◌≡◌, ◌⊎◌, ◌↔◌, ℕ, ◌+◌, ◌<◌, ◌≤◌, zero, suc, Bool, true, false, not, List, [], ◌∷◌, ◌++◌, length, get_or, refl, sym, ap, ◌∙◌, subst, inl, inr, arith, suc-le-suc, Option, Some, None, MatchOption, MatchBool, take, is_some}
+use Rattle.std.proofs.Common.{◌≡◌, ◌⊎◌, ◌↔◌, ℕ, ◌+◌, ◌<◌, ◌≤◌, zero, suc, Bool, true, false, not, List, [], ◌∷◌, ◌++◌, length, get_or, refl, sym, ap, ◌∙◌, subst, inl, inr, arith, suc-le-suc, Option, Some, None, MatchOption, MatchBool, take, is_some, Result, Ok, Err}
+use Rattle.std.specs.Result.{OnErr}
 use native.Mathlib.Nat.{le_of_suc-le-suc}
 use Rattle.std.specs.Bool.{beq}
 use Rattle.std.proofs.lemmas.Bool.{cases_lt, cases_order, false≢true, true≢false}
@@ -198,6 +199,12 @@ all_within rows others inside = spans_all rows (sets_of others) (λ k d h.
 
 -- ---- sums
 
+-- what holds whatever came holds where an error came
+pub on_err : {T E : Type 0} (result : Result T E) (P : Type 0) → P → OnErr result P
+on_err (Ok value) P p = tt
+on_err (Err error) P p = p
+
+-- one more row was inserted
 pub sum_more : (sum new rows : List (Columns ℕ)) (others : List (List Bool)) (i : ℕ) (row : List Bool) → i < length others → row ≡ get_or others i row
     → SameSpan sum (rows ++ sets_of (take i others)) → SameSpan new (set_of row ∷ sum) → SameSpan new (rows ++ sets_of (take (i + 1) others))
 sum_more sum new rows others i row h is before grown =
@@ -214,11 +221,18 @@ sum_more sum new rows others i row h is before grown =
           (spans_cons (set_of row ∷ sum) (set_of row) [] (in_head (set_of row) sum) (spans_none (set_of row ∷ sum))) v m)),
     )
 
-pub sum_ends : (sum rows : List (Columns ℕ)) (others : List (List Bool)) (i : ℕ) → length others ≤ i → SameSpan sum (rows ++ sets_of (take i others)) → IsSum sum rows (sets_of others)
-sum_ends sum rows others i past same =
-    let all : take i others ≡ others = take_all i others past in
-    let same_all : SameSpan sum (rows ++ sets_of others) = let P : List (List Bool) → Type 0 = λ (o : List (List Bool)). SameSpan sum (rows ++ sets_of o) in subst P all same in
-    λ v. (λ m. (together rows (sets_of others) v).0 ((same_all v).0 m), λ m. (same_all v).1 ((together rows (sets_of others) v).1 m))
+-- all rows were inserted
+pub sum_whole : (sum rows : List (Columns ℕ)) (others : List (List Bool)) (i : ℕ) → length others ≤ i
+    → SameSpan sum (rows ++ sets_of (take i others))
+    → SameSpan sum (rows ++ sets_of others)
+sum_whole sum rows others i past same =
+    let P : List (List Bool) → Type 0 = λ (o : List (List Bool)). SameSpan sum (rows ++ sets_of o) in subst P
+    (take_all i others past) same
+
+-- what spans two lists of rows together spans the symmetric differences of a member of each
+pub sum_ends : (sum rows others : List (Columns ℕ)) → SameSpan sum (rows ++ others) → IsSum sum rows others
+sum_ends sum rows others same =
+    λ v. (λ m. (together rows others v).0 ((same v).0 m), λ m. (same v).1 ((together rows others v).1 m))
 
 -- one more row within
 pub within_more : (rows : List (Columns ℕ)) (others : List (List Bool)) (i : ℕ) (row : List Bool) → i < length others → row ≡ get_or others i row

@@ -4,9 +4,7 @@
 
 mod row;
 mod span;
-#[cfg(test)]
-mod tests;
 mod words;
 
-pub use row::BitRow;
+pub use row::{BitRow, copy_rows};
 pub use span::{Span, leads_are_kept};

@@ -130,3 +130,14 @@ impl BitRow {
         self.words.copy_from_slice(&other.words);
     }
 }
+
+/// Copies of the rows, in order.
+pub fn copy_rows(alloc: Global, rows: &[BitRow]) -> Result<Vec<BitRow>, AllocError>
+    ensures { IfOk result (λ copies. copies.items ≡ rows.now) }
+{
+    let mut copies = Vec::new(alloc);
+    for row in rows {
+        copies.push(row.copy(alloc)?)?;
+    }
+    Ok(copies)
+}

@@ -1,4 +1,5 @@
 ghost use Rattle.std.specs.Prelude.{◌≡◌, ◌≢◌, ℕ, Bool, ◌+◌, ◌++◌, ◌<◌, ◌≤◌, ◌↔◌, List, [], ◌∷◌, length, true, false, slice_get, slice_index_or, IsTrue, IfOk, OnOk, OnErr, MatchBool, MatchOption, MatchResult, IfSome};
+ghost use Rattle.std.specs.Prelude.{All, take};
 ghost use Rattle.std.specs.Option.{option_copied};
 ghost use Rattle.span_model.specs.Columns.{Columns, set_of, sets_of, empty, ◌△◌};
 ghost use Rattle.span_model.specs.Span.{difference, InSpan, Spans, SameSpan, IsIndependent, IsSum, IsMeet};
@@ -6,7 +7,7 @@ ghost use Rattle.gf2_span.specs.Rows.{IsLast, HaveOwnLeads, HoldsNoLead, LeadsNo
 ghost use Rattle.gf2_span.specs.Basis.{Basis, row_sets};
 ghost use Rattle.gf2_span.specs.Echelon.{lead_at, AreAscending, IsSplitAt, IsEchelon, LeadsNone, IsTraced};
 
-use crate::row::BitRow;
+use crate::row::{BitRow, copy_rows};
 use std::alloc::{AllocError, Global};
 use std::marker::Model;
 
@@ -156,16 +157,16 @@ fn reduce(rows: &Vec<BitRow>, leads: &Vec<Lead>, row: &mut BitRow)
 fn reduce_traced(
     rows: &Vec<BitRow>,
     leads: &Vec<Lead>,
-    traces: &Vec<BitRow>,
+    traces: &[BitRow],
     row: &mut BitRow,
     trace: &mut BitRow,
 )
     requires echelon { IsEchelon (length row.old) rows.now.items leads.now.items }
-    requires as_many { length traces.now.items ≡ length rows.now.items }
-    requires wide { (k : ℕ) → k < length traces.now.items → length (slice_index_or traces.now.items k []) ≡ length trace.old }
+    requires as_many { length traces.now ≡ length rows.now.items }
+    requires wide { (k : ℕ) → k < length traces.now → length (slice_index_or traces.now k []) ≡ length trace.old }
     ensures columns { length row.new ≡ length row.old }
     ensures trace_columns { length trace.new ≡ length trace.old }
-    ensures same { IsTraced rows.now.items traces.now.items row.old trace.old row.new trace.new }
+    ensures same { IsTraced rows.now.items traces.now row.old trace.old row.new trace.new }
     ensures clear { HoldsNoLead (sets_of rows.now.items) (set_of row.new) }
 {
     let mut most = leads.len();
@@ -178,16 +179,6 @@ fn reduce_traced(
         most = k;
         end = lead.column;
     }
-}
-
-fn copies(alloc: Global, rows: &Vec<BitRow>) -> Result<Vec<BitRow>, AllocError>
-    ensures { IfOk result (λ copies. copies.items ≡ rows.now.items) }
-{
-    let mut copies = Vec::new(alloc);
-    for row in rows {
-        copies.push(row.copy(alloc)?)?;
-    }
-    Ok(copies)
 }
 
 impl Span {
@@ -205,7 +196,7 @@ impl Span {
     pub fn copy(&self, alloc: Global) -> Result<Span, AllocError>
         ensures { IfOk result (λ span. span ≡ self.now) }
     {
-        let rows = copies(alloc, &self.rows)?;
+        let rows = copy_rows(alloc, self.rows.as_slice())?;
         let leads = Vec::from_slice(alloc, self.leads.as_slice())?;
         Ok(Span {
             columns: self.columns,
@@ -232,6 +223,20 @@ impl Span {
             }
             None => Ok(false),
         }
+    }
+
+    /// Grows the span by copies of rows. After want of memory it was grown by the first of them.
+    pub fn insert_all(&mut self, alloc: Global, rows: &[BitRow]) -> Result<(), AllocError>
+        requires { All (λ row. length row ≡ self.old.columns) rows.now }
+        ensures columns { self.new.columns ≡ self.old.columns }
+        ensures span { OnOk result (SameSpan (row_sets self.new) (row_sets self.old ++ sets_of rows.now)) }
+        ensures err { OnErr result ((n : ℕ)
+            × SameSpan (row_sets self.new) (row_sets self.old ++ sets_of (take n rows.now))) }
+    {
+        for row in rows {
+            let _fresh = self.insert(row.copy(alloc)?)?;
+        }
+        Ok(())
     }
 
     /// Whether a row is in the span.
@@ -293,9 +298,7 @@ impl Span {
         ensures members { IfOk result (λ sum. IsSum (row_sets sum) (row_sets a.now) (row_sets b.now)) }
     {
         let mut sum = a.copy(alloc)?;
-        for row in &b.rows {
-            let _fresh = sum.insert(row.copy(alloc)?)?;
-        }
+        sum.insert_all(alloc, b.rows.as_slice())?;
         Ok(sum)
     }
 
@@ -331,13 +334,15 @@ impl Span {
     }
 
     /// Reduces a row, where each row of the span has a trace: with each row that is added to the row, its trace is added to the row's trace.
-    pub fn reduce_traced(&self, row: &mut BitRow, traces: &Vec<BitRow>, trace: &mut BitRow)
+    pub fn reduce_traced(&self, row: &mut BitRow, traces: &[BitRow], trace: &mut BitRow)
         requires columns { length row.old ≡ self.now.columns }
-        requires as_many { length traces.now.items ≡ length self.now.rows }
-        requires trace_columns { (k : ℕ) → k < length traces.now.items → length (slice_index_or traces.now.items k []) ≡ length trace.old }
+        requires as_many { length traces.now ≡ length self.now.rows }
+        requires trace_columns { (k : ℕ) → k < length traces.now
+            → length (slice_index_or traces.now k []) ≡ length trace.old }
         ensures columns { length row.new ≡ length row.old }
         ensures trace_columns { length trace.new ≡ length trace.old }
-        ensures same { (picks : List Bool) × (set_of row.old △ set_of row.new ≡ difference picks (row_sets self.now)) × (set_of trace.old △ set_of trace.new ≡ difference picks (sets_of traces.now.items)) }
+        ensures same { (picks : List Bool) × (set_of row.old △ set_of row.new ≡ difference picks (row_sets self.now))
+            × (set_of trace.old △ set_of trace.new ≡ difference picks (sets_of traces.now)) }
         ensures clear { HoldsNoLead (row_sets self.now) (set_of row.new) }
         ensures zero { (set_of row.new ≡ empty) ↔ InSpan (row_sets self.now) (set_of row.old) }
     {
@@ -403,7 +408,7 @@ impl Span {
             let mut trace = row.copy(alloc)?;
             base.reduce(&mut rest);
             more.reduce(&mut rest);
-            rests.reduce_traced(&mut rest, &traces, &mut trace);
+            rests.reduce_traced(&mut rest, traces.as_slice(), &mut trace);
             match rest.last() {
                 Some(c) => {
                     rests.keep(rest, c)?;

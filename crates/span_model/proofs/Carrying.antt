@@ -63,7 +63,8 @@ renumbered_same [] = refl
 renumbered_same (probe ∷ probes) = ap (λ (rest : List Probe). probe ∷ rest) (renumbered_same probes)
 
 -- probes of products are probes of those that have their numbers
-within_to : (n m t : ℕ) (number : ℕ → ℕ) → ((k : ℕ) → k < n → number k < m) → (probes : List Probe) → All (IsProbe n t) probes
+within_to : (n m t : ℕ) (number : ℕ → ℕ) → ((k : ℕ) → k < n → number k < m) → (probes : List Probe)
+    → All (IsProbe n t) probes
     → All (IsProbe m t) (map (renumbered number) probes)
 within_to n m t number there [] h k d lt = absurd (omega arith)
 within_to n m t number there (probe ∷ probes) h zero d lt =
@@ -117,32 +118,43 @@ module _ {C D : Type 0} where
       (λ v m. in_behind x y (f v) (h v m)) (λ v m. in_front x y (f v) (k v m))
 
   -- each operand of the products is carried into that of one of a number among the others
-  pub record CarriesTo (f : Columns C → Columns D) (number : ℕ → ℕ) (products : List (Product C)) (others : List (Product D)) : Type 0 where
+  pub record CarriesTo (f : Columns C → Columns D) (number : ℕ
+      → ℕ) (products : List (Product C)) (others : List (Product D)) : Type 0 where
     pub there : (k : ℕ) → k < length products → number k < length others
-    pub left : (k : ℕ) → k < length products → Carries f (product_at products k).left (product_at others (number k)).left
-    pub right : (k : ℕ) → k < length products → Carries f (product_at products k).right (product_at others (number k)).right
+    pub left : (k : ℕ) → k < length products
+        → Carries f (product_at products k).left (product_at others (number k)).left
+    pub right : (k : ℕ) → k < length products
+        → Carries f (product_at products k).right (product_at others (number k)).right
 
-  carries_seen : (f : Columns C → Columns D) → Keeps f → (number : ℕ → ℕ) (products : List (Product C)) (others : List (Product D))
-      → CarriesTo f number products others → (t : ℕ) (probes : List Probe) → All (IsProbe (length products) t) probes → (s : ℕ)
+  carries_seen : (f : Columns C → Columns D) → Keeps f → (number : ℕ
+      → ℕ) (products : List (Product C)) (others : List (Product D))
+      → CarriesTo f number products others → (t : ℕ) (probes : List Probe)
+      → All (IsProbe (length products) t) probes → (s : ℕ)
       → Carries f (seen products probes s) (seen others (map (renumbered number) probes) s)
   carries_seen f keeps number products others all t [] within s = throughout_none _ (carried_linear f keeps [])
   carries_seen f keeps number products others all t (probe ∷ probes) within s =
       let here : probe.product < length products = (within 0 probe (omega arith)).product in
-      carries_both f keeps (shown products probe s) (seen products probes s) (shown others (renumbered number probe) s) (seen others (map (renumbered number) probes) s)
+      carries_both f keeps (shown products probe s) (seen products probes s) (shown others
+      (renumbered number probe) s) (seen others (map (renumbered number) probes) s)
       (carries_both f keeps _ _ _ _
-      (carries_if f keeps (product_at products probe.product).left (product_at others (number probe.product)).left _ (all.left probe.product here))
-      (carries_if f keeps (product_at products probe.product).right (product_at others (number probe.product)).right _ (all.right probe.product here)))
+      (carries_if f keeps (product_at products probe.product).left (product_at others
+      (number probe.product)).left _ (all.left probe.product here))
+      (carries_if f keeps (product_at products probe.product).right (product_at others
+      (number probe.product)).right _ (all.right probe.product here)))
       (carries_seen f keeps number products others all t probes (λ k d lt. within (suc k) d (suc-le-suc lt)) s)
 
   -- the attack carries over with other numbers, where the leak does not vanish
-  pub attack_carried_to : (f : Columns C → Columns D) → Keeps f → (number : ℕ → ℕ) (products : List (Product C)) (others : List (Product D))
-      → CarriesTo f number products others → (t : ℕ) (leak : Columns C) (probes : List Probe) → IsAttack products t leak probes → f leak ≢ empty
+  pub attack_carried_to : (f : Columns C → Columns D) → Keeps f → (number : ℕ
+      → ℕ) (products : List (Product C)) (others : List (Product D))
+      → CarriesTo f number products others → (t : ℕ) (leak : Columns C) (probes : List Probe)
+      → IsAttack products t leak probes → f leak ≢ empty
       → IsAttack others t (f leak) (map (renumbered number) probes)
   attack_carried_to f keeps number products others all t leak probes attack nonempty = record {
     count = length-map probes (renumbered number) ∙ attack.count;
     within = within_to (length products) (length others) t number all.there probes attack.within;
     nonempty = nonempty;
-    spanned = λ s le. carries_seen f keeps number products others all t probes attack.within s leak (attack.spanned s le);
+    spanned = λ s le. carries_seen f keeps number products others all t probes attack.within s leak
+        (attack.spanned s le);
   }
 
   -- each operand of the products is carried into that of the others
@@ -156,7 +168,12 @@ module _ {C D : Type 0} where
       → (t : ℕ) (leak : Columns C) (probes : List Probe) → IsAttack products t leak probes → f leak ≢ empty → IsAttack others t (f leak) probes
   attack_carried f keeps products others all t leak probes attack nonempty =
       let to : CarriesTo f (λ k. k) products others =
-      record { there = λ k lt. below k (length products) (length others) lt all.count; left = all.left; right = all.right } in
+      record {
+        there = λ k lt. below k (length products)
+            (length others) lt all.count;
+        left = all.left;
+        right = all.right;
+      } in
       subst (λ (p : List Probe). IsAttack others t (f leak) p) (renumbered_same probes)
       (attack_carried_to f keeps (λ k. k) products others to t leak probes attack nonempty)
 
@@ -170,10 +187,12 @@ module _ {C D : Type 0} where
   }
 
   pub covered_attacks : (name : D → Option C) (number : ℕ → ℕ) (products : List (Product C)) (others : List (Product D))
-      → IsCovered name number products others → (t : ℕ) (leak : Columns C) (probes : List Probe) → IsAttack products t leak probes
+      → IsCovered name number products others → (t : ℕ) (leak : Columns C) (probes : List Probe)
+      → IsAttack products t leak probes
       → named_in name leak ≢ empty → IsAttack others t (named_in name leak) (map (renumbered number) probes)
   covered_attacks name number products others covered =
-      attack_carried_to (named_in name) (named_keeps name) number products others (covered_carries name number products others covered)
+      attack_carried_to (named_in name) (named_keeps name) number products others
+      (covered_carries name number products others covered)
 
   -- the product of a number, renamed
   pub renamed_at : (name : D → Option C) (products : List (Product C)) (k : ℕ)
@@ -243,6 +262,12 @@ module _ {C D : Type 0} where
   pub renamed_have : (products : List (Product C)) (others : List (Product D)) → AreRenamed products others
       → (HasAttack products → HasAttack others) × (HasAttack others → HasAttack products)
   renamed_have products others names = (
-    λ h. (named_in names.name h.0, (h.1.0, h.1.1, renamed_attacks names.name names.back products others names.there names.again h.1.0 h.0 h.1.1 h.1.2)),
-    λ h. (named_in names.back h.0, (h.1.0, h.1.1, renamed_attacks names.back names.name others products names.again names.there h.1.0 h.0 h.1.1 h.1.2)),
+    λ h. (
+      named_in names.name h.0,
+      (h.1.0, h.1.1, renamed_attacks names.name names.back products others names.there names.again h.1.0 h.0 h.1.1 h.1.2),
+    ),
+    λ h. (
+      named_in names.back h.0,
+      (h.1.0, h.1.1, renamed_attacks names.back names.name others products names.again names.there h.1.0 h.0 h.1.1 h.1.2),
+    ),
   )

@@ -103,7 +103,8 @@ together = record { at_empty = refl; at_sum = λ v w h k. ap₂ (λ (a b : Bool)
 pub one_row : ¬ IsAttack (pair_and_both ∷ []) 1 x_column (probe 0 1 0 ∷ [])
 one_row attack =
     true≢false
-    (throughout_cons _ together both_columns (empty ∷ []) refl (throughout_cons _ together empty [] refl (throughout_none _ together)) x_column
+    (throughout_cons _ together both_columns (empty ∷ []) refl (throughout_cons _ together empty [] refl
+    (throughout_none _ together)) x_column
     (attack.spanned 0 (omega arith)))
 
 -- ---- repair sets
@@ -131,7 +132,8 @@ pub needless_repair : ¬ IsRepairSet (x_and_y ∷ []) (λ _. true)
 needless_repair set = x_and_y_secure (set.needed 0 (omega arith) refl)
 
 -- with the second product left out none holds the column of x on its right
-x_not_right : (k : ℕ) → All (λ row. row 0 ≡ false) (product_at (left_out (λ k. k == 1) (x_and_y ∷ x_and_both ∷ [])) k).right
+x_not_right : (k : ℕ) → All (λ row. row 0 ≡ false) (product_at (left_out (λ k. k == 1)
+    (x_and_y ∷ x_and_both ∷ [])) k).right
 x_not_right zero zero d lt = refl
 x_not_right zero (suc i) d lt = absurd (omega arith)
 x_not_right (suc zero) i d lt = absurd (omega arith)
@@ -149,14 +151,19 @@ lefts_fresh (suc (suc k)) below i d lt = absurd (omega arith)
 
 second_secure : ¬ HasAttack (refreshed (λ k. k == 1) (x_and_y ∷ x_and_both ∷ []))
 second_secure has =
-    fresh_secure (left_out (λ k. k == 1) (x_and_y ∷ x_and_both ∷ [])) lefts_fresh ((same_attacks (x_and_y ∷ x_and_both ∷ []) (λ k. k == 1)).0 has)
+    fresh_secure (left_out (λ k. k == 1) (x_and_y ∷ x_and_both ∷ [])) lefts_fresh ((same_attacks
+    (x_and_y ∷ x_and_both ∷ []) (λ k. k == 1)).0 has)
 
 pub second_of_two : IsRepairSet (x_and_y ∷ x_and_both ∷ []) (λ k. k == 1)
 second_of_two = record { secure = second_secure; needed = needed }
   where
-    needed : (k : ℕ) → k < 2 → (k == 1) ≡ true → HasAttack (refreshed (without k (λ j. j == 1)) (x_and_y ∷ x_and_both ∷ []))
+    needed : (k : ℕ) → k < 2 → (k == 1) ≡ true
+        → HasAttack (refreshed (without k (λ j. j == 1)) (x_and_y ∷ x_and_both ∷ []))
     needed zero lt e = absurd (true≢false (sym e))
-    needed (suc zero) lt e = (none_same (x_and_y ∷ x_and_both ∷ [])).1 (x_column, (2, probe 0 1 0 ∷ probe 1 2 0 ∷ [], two_probes))
+    needed (suc zero) lt e = (none_same (x_and_y ∷ x_and_both ∷ [])).1 (
+      x_column,
+      (2, probe 0 1 0 ∷ probe 1 2 0 ∷ [], two_probes),
+    )
     needed (suc (suc k)) lt e = absurd (omega arith)
 
 pub both_of_two : ¬ IsRepairSet (x_and_y ∷ x_and_both ∷ []) (λ _. true)

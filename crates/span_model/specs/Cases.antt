@@ -50,7 +50,8 @@ pub record KnownCases : Type 0 where
   pub share_moved : ¬ IsAttack (x_and_y ∷ x_and_both ∷ []) 2 x_column (probe 0 1 0 ∷ probe 1 2 1 ∷ [])
   pub other_leak : ¬ IsAttack (x_and_y ∷ x_and_both ∷ []) 2 y_column (probe 0 1 0 ∷ probe 1 2 0 ∷ [])
   pub empty_leak : ¬ IsAttack (x_and_y ∷ x_and_both ∷ []) 2 (set_of []) (probe 0 1 0 ∷ probe 1 2 0 ∷ [])
-  -- both rows of an operand together make the exclusive-or of x and y, which one probe shows at both shares; x by itself is not shown at share 0
+  -- both rows of an operand together make the exclusive-or of x and y, which one probe shows at both shares; x by
+  -- itself is not shown at share 0
   pub two_rows : IsAttack (pair_and_both ∷ []) 1 both_columns (probe 0 1 0 ∷ [])
   pub one_row : ¬ IsAttack (pair_and_both ∷ []) 1 x_column (probe 0 1 0 ∷ [])
   -- the product of x and x is repaired by its refresh and not without it, that of x and y without one and not with it

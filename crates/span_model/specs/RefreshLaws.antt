@@ -5,11 +5,12 @@ use Rattle.span_model.specs.Attack.{Product, Probe, IsAttack, IsLeak, HasAttack}
 use Rattle.span_model.specs.Renaming.{named_in, renamed, AreRenamed, renumbered, IsCovered}
 use Rattle.span_model.specs.Refresh.{RefreshedColumn, added, refreshed, IsWithin, without, left_out, IsRepairSet, IsOnLeftAlone, IsLeftFresh}
 
--- probes that attack products attack, with the numbers of the covering ones, products that cover them, with the leak as it is read by the names,
--- where this is not empty
+-- probes that attack products attack products that cover them, with the numbers of the covering ones, and with the
+-- leak as it is read by the names, where this is not empty
 abbrev pub AttackCarriesOver : (C D : Type 0) → Type 0
 AttackCarriesOver C D =
-    (name : D → Option C) (number : ℕ → ℕ) (products : List (Product C)) (others : List (Product D)) → IsCovered name number products others
+    (name : D → Option C) (number : ℕ → ℕ) (products : List (Product C)) (others : List (Product D))
+    → IsCovered name number products others
     → (t : ℕ) (leak : Columns C) (probes : List Probe) → IsAttack products t leak probes → named_in name leak ≢ empty
     → IsAttack others t (named_in name leak) (map (renumbered number) probes)
 
@@ -20,15 +21,18 @@ RenamingKeepsAttacks C D =
     → renamed name products ≡ others → renamed back others ≡ products
     → (t : ℕ) (leak : Columns C) (probes : List Probe) → IsAttack products t leak probes → IsAttack others t (named_in name leak) probes
 
--- products whose columns only have other names than those of refreshed products have the attacks of these
+-- products whose columns only have other names than those of refreshed products have an attack exactly where these
+-- have one, with the same probes
 pub record RefreshedUnderNames (C D : Type 0) : Type 0 where
-  pub attack : (products : List (Product C)) (set : ℕ → Bool) (others : List (Product D)) → AreRenamed (refreshed set products) others
-      → HasAttack (refreshed set products) ↔ HasAttack others
-  pub probes : (products : List (Product C)) (set : ℕ → Bool) (others : List (Product D)) (names : AreRenamed (refreshed set products) others)
-      → (t : ℕ) (leak : Columns (RefreshedColumn C)) (probes : List Probe) → IsAttack (refreshed set products) t leak probes
+  pub attack : (products : List (Product C)) (set : ℕ → Bool) (others : List (Product D))
+      → AreRenamed (refreshed set products) others → HasAttack (refreshed set products) ↔ HasAttack others
+  pub probes : (products : List (Product C)) (set : ℕ → Bool) (others : List (Product D))
+      (names : AreRenamed (refreshed set products) others) (t : ℕ) (leak : Columns (RefreshedColumn C))
+      (probes : List Probe) → IsAttack (refreshed set products) t leak probes
       → IsAttack others t (named_in names.name leak) probes
-  pub again : (products : List (Product C)) (set : ℕ → Bool) (others : List (Product D)) (names : AreRenamed (refreshed set products) others)
-      → (t : ℕ) (leak : Columns D) (probes : List Probe) → IsAttack others t leak probes
+  pub again : (products : List (Product C)) (set : ℕ → Bool) (others : List (Product D))
+      (names : AreRenamed (refreshed set products) others) (t : ℕ) (leak : Columns D)
+      (probes : List Probe) → IsAttack others t leak probes
       → IsAttack (refreshed set products) t (named_in names.back leak) probes
 
 -- no leak holds a column that is on left operands alone

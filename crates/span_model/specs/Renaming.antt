@@ -17,7 +17,7 @@ renamed_product name product = record { left = map (named_in name) product.left;
 abbrev pub renamed : {C D : Type 0} → (D → Option C) → List (Product C) → List (Product D)
 renamed name products = map (renamed_product name) products
 
--- the others are the products with other names for their columns, and the products are the others with these names taken back
+-- the others are the products with other names for their columns, and the other way round
 pub record AreRenamed {C D : Type 0} (products : List (Product C)) (others : List (Product D)) : Type 0 where
   pub name : D → Option C
   pub back : C → Option D
@@ -30,7 +30,8 @@ renumbered number probe =
     record { product = number probe.product; left_share = probe.left_share; right_share = probe.right_share }
 
 -- each of the products has one of a number among the others, whose operands span its rows as they are read by the names
-pub record IsCovered {C D : Type 0} (name : D → Option C) (number : ℕ → ℕ) (products : List (Product C)) (others : List (Product D)) : Type 0 where
+pub record IsCovered {C D : Type 0} (name : D → Option C) (number : ℕ → ℕ) (products : List (Product C))
+    (others : List (Product D)) : Type 0 where
   pub there : (k : ℕ) → k < length products → number k < length others
   pub left : (k : ℕ) → k < length products
       → Spans (product_at others (number k)).left (map (named_in name) (product_at products k).left)

@@ -1,4 +1,5 @@
-ghost use Rattle.span_model.specs.RefreshLaws.{AttackCarriesOver, RenamingKeepsAttacks, RefreshedUnderNames, LeftColumnsDoNotLeak, FreshLeftsAreSecure};
+ghost use Rattle.span_model.specs.RefreshLaws.{AttackCarriesOver, RenamingKeepsAttacks, RefreshedUnderNames};
+ghost use Rattle.span_model.specs.RefreshLaws.{LeftColumnsDoNotLeak, FreshLeftsAreSecure};
 ghost use Rattle.span_model.specs.RefreshLaws.{AddedColumnsDoNotLeak, AllRefreshedIsSecure, NoneRefreshedIsSame, RefreshedIsLeftOut};
 ghost use Rattle.span_model.specs.RefreshLaws.{AttackStaysWithFewer, NeededStaysNeeded, RepairSetIsLeast};
 

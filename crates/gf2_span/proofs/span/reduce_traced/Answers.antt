@@ -20,9 +20,9 @@ loop-k-preserved c =
     record {
       long = c.add_to.ensures.columns ∙ c.loop-k.invariant.long;
       trace_long = c.add.ensures.columns ∙ c.loop-k.invariant.trace_long;
-      traced = traced_more c.args.rows.now.items c.args.traces.now.items c.args.row.now c.args.trace.now c.loop-k.row c.loop-k.trace c.add_to.new.self c.add.new.self
-          c.index.result.now c.index-in-Some.result.now c.index-lead.result.now.row c.requires.as_many place
-          (c.index.ensures ∙ get_or_default c.args.rows.now.items c.index-lead.result.now.row c.index.result.now _ place) c.index-in-Some.ensures
+      traced = traced_more c.args.rows.now.items c.args.traces.now c.args.row.now c.args.trace.now c.loop-k.row c.loop-k.trace c.add_to.new.self c.add.new.self
+          c.index.result.now c.index-traces-place.result c.index-lead.result.now.row c.requires.as_many place
+          (c.index.ensures ∙ get_or_default c.args.rows.now.items c.index-lead.result.now.row c.index.result.now _ place) c.index-traces-place.is
           c.add_to.ensures.sum c.add.ensures.sum c.loop-k.invariant.traced;
       reducing = subst P (ap (λ (l : Lead). l.column) (sym at))
           (reducing_more c.args.rows.now.items c.args.leads.now.items c.loop-k.row c.add_to.new.self c.index.result.now c.loop-k.most c.loop-k.end c.in-Some.k

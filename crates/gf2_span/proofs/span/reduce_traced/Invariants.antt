@@ -7,7 +7,7 @@ abbrev pub invariant-loop-k : goal.invariant-loop-k
 invariant-loop-k l = record {
   long : length l.row ≡ length l.initial.row;
   trace_long : length l.trace ≡ length l.initial.trace;
-  traced : IsTraced l.rows.items l.traces.items l.initial.row l.initial.trace l.row l.trace;
+  traced : IsTraced l.rows.items l.traces l.initial.row l.initial.trace l.row l.trace;
   reducing : IsReducing l.leads.items l.row l.most l.end;
 }
 

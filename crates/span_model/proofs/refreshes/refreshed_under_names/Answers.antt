@@ -6,6 +6,8 @@ pub returns : goal.returns
 returns g c =
     record {
       attack = λ products set others names. renamed_have (refreshed set products) others names;
-      probes = λ products set others names. renamed_attacks names.name names.back (refreshed set products) others names.there names.again;
-      again = λ products set others names. renamed_attacks names.back names.name others (refreshed set products) names.again names.there;
+      probes = λ products set others names. renamed_attacks names.name names.back
+          (refreshed set products) others names.there names.again;
+      again = λ products set others names. renamed_attacks names.back names.name others
+          (refreshed set products) names.again names.there;
     }

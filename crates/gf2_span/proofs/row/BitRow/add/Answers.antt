@@ -1,11 +1,7 @@
 use Rattle.std.proofs.Common.{ℕ, List, ◌≡◌, sym, ◌∙◌, subst, length, arith}
 use Rattle.gf2_span.specs.Words.{bits_of, IsPadded}
-use Rattle.gf2_span.proofs.Bits.{length-bits, sum_padded, set_of-sum}
+use Rattle.gf2_span.proofs.Bits.{length-bits, as_long, other_padded, sum_padded, set_of-sum}
 use Rattle.gf2_span.proofs.row.BitRow.add.Goals as goal
-
--- rows as long have as many words
-as_long : (a b : ℕ) (words others : List ℕ) → length (bits_of a words) ≡ length (bits_of b others) → a ≡ b
-as_long a b words others same = sym (length-bits a words) ∙ same ∙ length-bits b others
 
 pub add_words-requires-clause-same : goal.add_words-requires-clause-same
 add_words-requires-clause-same c =
@@ -13,10 +9,6 @@ add_words-requires-clause-same c =
     let columns : c.self.inside.columns ≡ c.other.inside.columns = as_long c.self.inside.columns c.other.inside.columns c.self.inside.words.items c.other.inside.words.items same in
     let as_many : length c.self.inside.words.items ≡ length c.other.inside.words.items = omega (arith, c.self.invariant.long, c.other.invariant.long) in
     omega (arith, c.self.inside.words.ok, c.other.inside.words.ok, c.deref.ensures.len)
-
--- what is known of the other row's words, at this row's columns
-other_padded : (a b : ℕ) (words others : List ℕ) → length (bits_of a words) ≡ length (bits_of b others) → IsPadded b others → IsPadded a others
-other_padded a b words others same padded = let P : ℕ → Type 0 = λ n. IsPadded n others in subst P (sym (as_long a b words others same)) padded
 
 pub invariant_of-self : goal.invariant_of-self
 invariant_of-self c =

@@ -1,12 +1,8 @@
 use Rattle.std.proofs.Common.{ℕ, List, false, ◌≡◌, ◌+◌, ◌/◌, ◌≤◌, sym, ◌∙◌, subst, ◌<◌, length, arith}
 use Rattle.span_model.specs.Columns.{set_of}
 use Rattle.gf2_span.specs.Words.{bits_of, IsPadded}
-use Rattle.gf2_span.proofs.Bits.{length-bits, sum_padded, set_of-sum, clear_above}
+use Rattle.gf2_span.proofs.Bits.{length-bits, as_long, other_padded, sum_padded, set_of-sum, clear_above}
 use Rattle.gf2_span.proofs.row.BitRow.add_to.Goals as goal
-
--- rows as long have as many words
-as_long : (a b : ℕ) (words others : List ℕ) → length (bits_of a words) ≡ length (bits_of b others) → a ≡ b
-as_long a b words others same = sym (length-bits a words) ∙ same ∙ length-bits b others
 
 in_words : (columns lead : ℕ) (words : List ℕ) → lead < length (bits_of columns words) → length words ≡ (columns + 63) / 64 → lead / 64 + 1 ≤ length words
 in_words columns lead words h long = omega (arith, length-bits columns words)
@@ -28,10 +24,6 @@ pub add_words-requires-clause-clear : goal.add_words-requires-clause-clear
 add_words-requires-clause-clear c =
     let clear : (d : ℕ) → c.args.lead < d → set_of (bits_of c.other.inside.columns c.other.inside.words.items) d ≡ false = rw c.other.view_is c.requires.clear in
     rw c.deref.ensures.value (clear_above c.other.inside.columns c.other.inside.words.items c.args.lead c.other.invariant clear)
-
--- what is known of the other row's words, at this row's columns
-other_padded : (a b : ℕ) (words others : List ℕ) → length (bits_of a words) ≡ length (bits_of b others) → IsPadded b others → IsPadded a others
-other_padded a b words others same padded = let P : ℕ → Type 0 = λ n. IsPadded n others in subst P (sym (as_long a b words others same)) padded
 
 pub invariant_of-self : goal.invariant_of-self
 invariant_of-self c =

@@ -1,10 +1,7 @@
 use Rattle.std.proofs.Common.{ℕ, List, ◌≡◌, sym, ◌∙◌, length, arith}
 use Rattle.gf2_span.specs.Words.{bits_of}
-use Rattle.gf2_span.proofs.Bits.{length-bits}
+use Rattle.gf2_span.proofs.Bits.{as_long}
 use Rattle.gf2_span.proofs.row.BitRow.overwrite.Goals as goal
-
-as_long : (a b : ℕ) (words others : List ℕ) → length (bits_of a words) ≡ length (bits_of b others) → a ≡ b
-as_long a b words others same = sym (length-bits a words) ∙ same ∙ length-bits b others
 
 pub copy_from_slice-requires : goal.copy_from_slice-requires
 copy_from_slice-requires c =

@@ -1,4 +1,4 @@
-use Rattle.std.proofs.Common.{List, Bool, [], ◌∷◌, ◌++◌, ◌≡◌, ◌<◌, ◌≤◌, length, get_or, ap, sym, subst, ◌∙◌}
+use Rattle.std.proofs.Common.{ℕ, List, Bool, [], ◌∷◌, ◌++◌, ◌≡◌, ◌<◌, ◌≤◌, length, get_or, ap, sym, subst, ◌∙◌}
 use Rattle.span_model.specs.Columns.{set_of, sets_of, ◌△◌}
 use Rattle.span_model.specs.Span.{InSpan}
 use Rattle.gf2_span.specs.Rows.{HaveOwnLeads}
@@ -47,7 +47,10 @@ reduce_traced-requires-clause-trace_columns c =
     let is : c.row-item.result ≡ get_or c.a.inside.rows.items c.loop-row.row-index c.row-item.result = rw (← c.deref-row-items.ensures.value) c.row-item.is in
     let wide : length c.row-item.result ≡ c.a.inside.columns = item_wide c.a.inside.columns c.a.inside.rows.items c.a.inside.leads.items c.loop-row.row-index c.row-item.result c.a.invariant within is in
     let long : length c.row-item.result ≡ c.args.base.now.columns = wide ∙ ap (λ (b : Basis). b.columns) c.a.view_is ∙ c.requires.columns in
-    λ k h. c.loop-row.invariant.meeting.wide k h ∙ sym (ap length c.in_ok-trace.ensures ∙ long)
+    let P : List (List Bool) → Type 0 = λ x. (k : ℕ) → k < length x
+    → length (get_or x k []) ≡ length c.in_ok-trace.trace in
+    subst P (sym c.as_slice.ensures.value) (λ k h. c.loop-row.invariant.meeting.wide k h
+    ∙ sym (ap length c.in_ok-trace.ensures ∙ long))
 
 pub keep-requires-clause-wide : goal.keep-requires-clause-wide
 keep-requires-clause-wide c =
@@ -76,7 +79,12 @@ loop-row-preserved c =
     let is : c.row-item.result ≡ get_or c.args.a.now.rows c.loop-row.row-index c.row-item.result = rw (← items) c.row-item.is in
     let by_base : InSpan (row_sets c.args.base.now) (set_of c.row-item.result △ set_of c.reduce.new.row) = rw (← c.in_ok-rest.ensures) c.reduce.ensures.same in
     let traced : IsTraced c.loop-row.rests.rows c.loop-row.traces.items c.reduce-in-loop-row.new.row c.row-item.result c.reduce_traced.new.row c.reduce_traced.new.trace =
-    record { picks = c.reduce_traced.ensures.same.0; row_part = c.reduce_traced.ensures.same.1; trace_part = rw (← c.in_ok-trace.ensures) c.reduce_traced.ensures.same.2 } in
+    record {
+      picks = c.reduce_traced.ensures.same.0;
+      row_part = c.reduce_traced.ensures.same.1;
+      trace_part = rw
+          (← c.in_ok-trace.ensures, ← c.as_slice.ensures.value) c.reduce_traced.ensures.same.2;
+    } in
     let came : IsStep (row_sets c.args.base.now) (row_sets c.args.more.now) c.loop-row.rests.rows c.loop-row.traces.items c.row-item.result c.reduce_traced.new.row c.reduce_traced.new.trace =
     step (row_sets c.args.base.now) (row_sets c.args.more.now) c.loop-row.rests.rows c.loop-row.traces.items c.row-item.result c.reduce.new.row c.reduce-in-loop-row.new.row
     c.reduce_traced.new.row c.reduce_traced.new.trace c.requires.clear c.loop-row.invariant.meeting.over_base c.loop-row.invariant.meeting.over_more

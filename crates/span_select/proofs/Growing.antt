@@ -29,19 +29,12 @@ all_more {X} P xs x all here k d h = elim (cases_lt k (length xs)) [
 ]
 
 module _ {C : Type 0} where
-  -- a span that grew by one row more
-  pub grown_more : (new now old taken : List (Columns C)) (row : Columns C) → SameSpan now (taken ++ old) → SameSpan new (row ∷ now) → SameSpan new ((taken ++ row ∷ []) ++ old)
-  grown_more new now old taken row before after w =
-      let there : Spans ((taken ++ row ∷ []) ++ old) (row ∷ now) =
-      spans_cons ((taken ++ row ∷ []) ++ old) row now (in_behind (taken ++ row ∷ []) old row (in_front taken (row ∷ []) row (in_head row [])))
-      (λ v h. spans_both ((taken ++ row ∷ []) ++ old) taken old
-      (λ u k. in_behind (taken ++ row ∷ []) old u (in_behind taken (row ∷ []) u k)) (in_front (taken ++ row ∷ []) old) v ((before v).0 h)) in
-      let row_only : Spans (row ∷ now) (row ∷ []) = spans_cons (row ∷ now) row [] (in_head row now) (λ v h. in_later row now v (in_behind [] now v h)) in
-      let back : Spans (row ∷ now) ((taken ++ row ∷ []) ++ old) =
-      spans_both (row ∷ now) (taken ++ row ∷ []) old
-      (spans_both (row ∷ now) taken (row ∷ []) (λ v h. in_later row now v ((before v).1 (in_behind taken old v h))) row_only)
-      (λ v h. in_later row now v ((before v).1 (in_front taken old v h))) in
-      (λ h. there w ((after w).0 h), λ h. (after w).1 (back w h))
+  -- a span that grew by rows, with these in front
+  pub grown_in_front : (new old taken : List (Columns C)) → SameSpan new (old ++ taken) → SameSpan new (taken ++ old)
+  grown_in_front new old taken grown v = (
+    λ m. spans_both (taken ++ old) old taken (in_front taken old) (in_behind taken old) v ((grown v).0 m),
+    λ m. (grown v).1 (spans_both (old ++ taken) taken old (in_front old taken) (in_behind old taken) v m),
+  )
 
 -- ---- a row that is moved up, column by column
 

@@ -4,8 +4,8 @@ ghost use Rattle.span_model.specs.Span.{InSpan};
 ghost use Rattle.span_select.specs.Selection.{rows_of, AreLeastNumbers};
 ghost use Rattle.span_select.specs.RowGroups.{RowGroups, group_sets};
 
-use crate::words::{grow, lift, take_in_all, word_of};
-use gf2_span::{BitRow, Span};
+use crate::words::{lift, take_in_all, word_of};
+use gf2_span::{BitRow, Span, copy_rows};
 use std::alloc::{AllocError, Global};
 use std::marker::Model;
 
@@ -40,16 +40,6 @@ impl Model for Groups {
     ghost view = { λ kept. record { columns = kept.columns; groups = map (λ group. group.rows.items) kept.groups.items } };
 
     ghost invariant = { λ kept. IsKept kept.columns kept.basis.columns (map (λ group. group.rows.items) kept.groups.items) (map (λ group. group.words.items) kept.groups.items) (row_sets kept.basis) kept.owners.items kept.whole };
-}
-
-fn copies(alloc: Global, rows: &[BitRow]) -> Result<Vec<BitRow>, AllocError>
-    ensures { IfOk result (λ copies. copies.items ≡ rows.now) }
-{
-    let mut copies = Vec::new(alloc);
-    for row in rows {
-        copies.push(row.copy(alloc)?)?;
-    }
-    Ok(copies)
 }
 
 impl Groups {
@@ -100,7 +90,7 @@ impl Groups {
             self.columns,
             rows,
         )?;
-        let rows = copies(alloc, rows)?;
+        let rows = copy_rows(alloc, rows)?;
         self.groups.push(Group { rows, words })?;
         self.whole = true;
         Ok(())
@@ -134,7 +124,7 @@ impl Groups {
                 Some(owner) if *owner < below => {
                     below = *owner;
                     numbers.push(below as u32)?;
-                    grow(&mut span, alloc, &self.groups[below].words)?;
+                    span.insert_all(alloc, self.groups[below].words.as_slice())?;
                 }
                 _ => return Ok(None),
             }

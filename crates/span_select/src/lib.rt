@@ -3,8 +3,6 @@
 
 mod groups;
 mod laws;
-#[cfg(test)]
-mod tests;
 mod words;
 
 pub use groups::Groups;

@@ -1,7 +1,7 @@
 // The words of rows: which basis rows a row is made of, and what is left of it.
 ghost use Rattle.std.specs.Prelude.{◌≡◌, ◌+◌, ◌*◌, ◌^◌, ◌<◌, ◌≤◌, ◌++◌, [], ◌∷◌, length, All, IfOk, OnOk};
 ghost use Rattle.span_model.specs.Columns.{set_of, sets_of, ◌△◌};
-ghost use Rattle.span_model.specs.Span.{InSpan, SameSpan};
+ghost use Rattle.span_model.specs.Span.{InSpan};
 ghost use Rattle.gf2_span.specs.Basis.{row_sets};
 ghost use Rattle.span_select.specs.Words.{raised, IsReduced, StandsFor, IsFrame, TakesIn, unit, IsLifted};
 
@@ -137,16 +137,4 @@ pub(crate) fn lift(
         let _fresh = span.insert(word_of(alloc, basis, row)?)?;
     }
     Ok(span)
-}
-
-// Grows a span by rows.
-pub(crate) fn grow(span: &mut Span, alloc: Global, rows: &Vec<BitRow>) -> Result<(), AllocError>
-    requires { All (λ row. length row ≡ span.old.columns) rows.now.items }
-    ensures columns { span.new.columns ≡ span.old.columns }
-    ensures grown { OnOk result (SameSpan (row_sets span.new) (sets_of rows.now.items ++ row_sets span.old)) }
-{
-    for row in rows {
-        let _fresh = span.insert(row.copy(alloc)?)?;
-    }
-    Ok(())
 }

@@ -6,8 +6,7 @@ use Rattle.ll_reader.specs.declared.grammar.Production.{Production}
 use Rattle.ll_reader.specs.declared.grammar.Step.{Step}
 use Rattle.ll_reader.specs.declared.grammar.Step.TheVariants.{Take, Choose}
 use Rattle.ll_reader.specs.Derivation.{items, Derives, done, token, rule}
-use Rattle.ll_reader.specs.Predictive.{Facts, facts_of, height_of}
-use Rattle.ll_reader.proofs.Passing.{Passed}
+use Rattle.ll_reader.specs.Predictive.{Facts, facts_of, height_of, Meet}
 use Rattle.ll_reader.proofs.Lookahead.{KnownAll, known_items}
 
 -- what is due one after another makes texts one after another
@@ -30,7 +29,7 @@ height_rest h rest n low = omega arith
 no_height : (h rest : ℕ) → max (h + 1) rest ≤ 0 → ⊥
 no_height h rest low = absurd (omega arith)
 
-module _ (table : List Production) (facts : List Facts) (start end : ℕ) (passed : Passed facts start end table) where
+module _ (table : List Production) (facts : List Facts) (start end : ℕ) (passed : Meet facts start end table) where
   has_text_above : (n : ℕ) → ((due : List Item) → KnownAll facts due → height_of facts due ≤ n → HasText table due) → (due : List Item) → KnownAll facts due → height_of facts due ≤ suc n → HasText table due
   has_text_above n lower [] known low = ([], [], done)
   has_text_above n lower (Token c ∷ due) known low =

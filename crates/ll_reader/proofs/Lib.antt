@@ -1,3 +1,4 @@
+pub mod Search
 pub mod Passing
 pub mod Lookahead
 pub mod Endings
@@ -5,4 +6,5 @@ pub mod Weights
 pub mod Opened
 pub mod Machine
 pub mod Reading
+pub mod Answered
 pub mod Once

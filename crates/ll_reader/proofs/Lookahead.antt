@@ -8,8 +8,8 @@ use Rattle.ll_reader.specs.declared.grammar.Production.{Production}
 use Rattle.ll_reader.specs.declared.grammar.Step.{Step}
 use Rattle.ll_reader.specs.declared.grammar.Step.TheVariants.{Take, Choose}
 use Rattle.ll_reader.specs.Derivation.{items, Derives, token, rule, steps_to}
-use Rattle.ll_reader.specs.Predictive.{Facts, facts_of, is_within, lead_of, is_linked}
-use Rattle.ll_reader.proofs.Passing.{In, within_in, pow_in, Passed}
+use Rattle.ll_reader.specs.Predictive.{In, Facts, facts_of, lead_of, AreLinked, Meet}
+use Rattle.ll_reader.proofs.Passing.{pow_in}
 
 -- the class can begin what is due
 abbrev pub LeadIn : List Facts → ℕ → List Item → Type 0
@@ -29,15 +29,12 @@ lead_append facts behind [] due c h lead = h c lead
 lead_append facts behind (Token d ∷ xs) due c h lead = subst (λ n. In c (2 ^ n)) lead (pow_in c)
 lead_append facts behind (Rule a ∷ xs) due c h lead = lead
 
-linked_append : (facts : List Facts) (end behind : ℕ) (xs due : List Item) → is_linked facts end behind xs ≡ true → ((d : ℕ) → LeadIn facts d due → In d behind) → Linked facts end due → Linked facts end (xs ++ due)
+linked_append : (facts : List Facts) (end behind : ℕ) (xs due : List Item) → AreLinked facts end behind xs → ((d : ℕ) → LeadIn facts d due → In d behind) → Linked facts end due → Linked facts end (xs ++ due)
 linked_append facts end behind [] due h follows linked = linked
 linked_append facts end behind (Token c ∷ xs) due h follows linked =
-    let a = and_parts (not (eqb c end)) (is_linked facts end behind xs) h in
-    (λ same. absurd (both_ways (eqb c end) (not-true (eqb c end) a.0) (eq-eqb c end same)), linked_append facts end behind xs due a.1 follows linked)
+    ((λ same. absurd (h.0 same)), linked_append facts end behind xs due h.1 follows linked)
 linked_append facts end behind (Rule r ∷ xs) due h follows linked =
-    let a = and_parts (ltb r (length facts) && is_within (lead_of facts behind xs) (facts_of facts r).follow) (is_linked facts end behind xs) h in
-    let b = and_parts (ltb r (length facts)) (is_within (lead_of facts behind xs) (facts_of facts r).follow) a.0 in
-    (ltb-true r (length facts) b.0, (λ c lead. within_in (lead_of facts behind xs) (facts_of facts r).follow c b.1 (lead_append facts behind xs due c follows lead)), linked_append facts end behind xs due a.1 follows linked)
+    (h.0, (λ c lead. h.1 c (lead_append facts behind xs due c follows lead)), linked_append facts end behind xs due h.2 follows linked)
 
 -- every rule is known
 abbrev pub KnownAll : List Facts → List Item → Type 0
@@ -50,14 +47,10 @@ linked_known facts end [] linked = tt
 linked_known facts end (Token c ∷ due) linked = linked_known facts end due linked.1
 linked_known facts end (Rule a ∷ due) linked = (linked.0, linked_known facts end due linked.2)
 
-known_linked : (facts : List Facts) (end behind : ℕ) (xs : List Item) → is_linked facts end behind xs ≡ true → KnownAll facts xs
+known_linked : (facts : List Facts) (end behind : ℕ) (xs : List Item) → AreLinked facts end behind xs → KnownAll facts xs
 known_linked facts end behind [] h = tt
-known_linked facts end behind (Token c ∷ xs) h =
-    known_linked facts end behind xs (and_parts (not (eqb c end)) (is_linked facts end behind xs) h).1
-known_linked facts end behind (Rule r ∷ xs) h =
-    let a = and_parts (ltb r (length facts) && is_within (lead_of facts behind xs) (facts_of facts r).follow) (is_linked facts end behind xs) h in
-    let b = and_parts (ltb r (length facts)) (is_within (lead_of facts behind xs) (facts_of facts r).follow) a.0 in
-    (ltb-true r (length facts) b.0, known_linked facts end behind xs a.1)
+known_linked facts end behind (Token c ∷ xs) h = known_linked facts end behind xs h.1
+known_linked facts end behind (Rule r ∷ xs) h = (h.0, known_linked facts end behind xs h.2)
 
 -- the first n elements are the same
 abbrev pub SameFront : ℕ → List ℕ → List ℕ → Type 0
@@ -66,7 +59,7 @@ SameFront (suc n) [] us = ⊥
 SameFront (suc n) (c ∷ ts) [] = ⊥
 SameFront (suc n) (c ∷ ts) (b ∷ us) = (c ≡ b) × SameFront n ts us
 
-module _ (table : List Production) (facts : List Facts) (start end : ℕ) (passed : Passed facts start end table) where
+module _ (table : List Production) (facts : List Facts) (start end : ℕ) (passed : Meet facts start end table) where
   -- what is due once a production is chosen
   pub linked_choice : (k a : ℕ) (p : Production) (due : List Item) → slice_get table k ≡ Some p → p.rule ≡ a → Linked facts end (Rule a ∷ due) → Linked facts end (items p ++ due)
   linked_choice k a p due at of linked =
@@ -76,14 +69,14 @@ module _ (table : List Production) (facts : List Facts) (start end : ℕ) (passe
   -- a production is chosen at each class that can begin its items
   pub in_first : (k a : ℕ) (p : Production) (due : List Item) (c : ℕ) → slice_get table k ≡ Some p → p.rule ≡ a → Linked facts end (Rule a ∷ due) → LeadIn facts c (items p ++ due) → In c p.first
   in_first k a p due c at of linked lead =
-      within_in (lead_of facts (facts_of facts p.rule).follow (items p)) p.first c (passed.each k p at).lead
+      (passed.each k p at).lead c
       (lead_append facts (facts_of facts p.rule).follow (items p) due c (λ d l. subst (λ r. In d (facts_of facts r).follow) (sym of) (linked.1 d l)) lead)
 
   pub leads : (due : List Item) (c : ℕ) (ts : List ℕ) (steps : List Step) → Linked facts end due → Derives table due (c ∷ ts) steps → LeadIn facts c due
   leads _ c ts _ linked (token d) = refl
   leads _ c ts _ linked (rule {a = a} {k = k} {p = p} {due = due} {steps = steps} at of d) =
       subst (λ r. In c (facts_of facts r).lead) of
-      (within_in p.first (facts_of facts p.rule).lead c (passed.each k p at).own
+      ((passed.each k p at).own c
       (in_first k a p due c at of linked (leads (items p ++ due) c ts steps (linked_choice k a p due at of linked) d)))
 
   -- the class of the next token is one of those at which the production is chosen

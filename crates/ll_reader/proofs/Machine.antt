@@ -12,10 +12,9 @@ use Rattle.ll_reader.specs.declared.grammar.Step.{Step}
 use Rattle.ll_reader.specs.declared.grammar.Step.TheVariants.{Take, Choose}
 use Rattle.ll_reader.specs.Derivation.{items, Derives, done, token, rule, IsText, BeginsText}
 use Rattle.ll_reader.specs.Depth.{items_at, depths, token_depths, KeepsDepth}
-use Rattle.ll_reader.specs.Choice.{GoesOn}
+use Rattle.ll_reader.specs.Private.Choice.{GoesOn}
 use Rattle.ll_reader.specs.Answer.{IsSyntaxFault, IsTooDeepFault}
-use Rattle.ll_reader.specs.Predictive.{Facts, facts_of, IsPredictive}
-use Rattle.ll_reader.proofs.Passing.{In, Passed, known_of, table_passed}
+use Rattle.ll_reader.specs.Predictive.{In, Facts, facts_of, Meet}
 use Rattle.ll_reader.proofs.Lookahead.{Linked, linked_known, linked_choice, chosen_at}
 use Rattle.ll_reader.proofs.Endings.{has_text}
 
@@ -72,7 +71,7 @@ record After (table : List Production) (due : List Item) (ts : List ℕ) (step :
 token_step : {table : List Production} {w c : ℕ} {due : List Item} {rest : List ℕ} {s : List Step} → Derives table (Token w ∷ due) (c ∷ rest) s → (w ≡ c) × After table due rest Take s
 token_step (token {steps = steps} d) = (refl, record { steps = steps; is = refl; left = d })
 
-rule_step : (table : List Production) (facts : List Facts) (start end : ℕ) → Passed facts start end table → (a k c : ℕ) (p : Production) (due : List Item) (rest : List ℕ) (s : List Step) → slice_get table k ≡ Some p → p.rule ≡ a → In c p.first → Linked facts end (Rule a ∷ due) → Derives table (Rule a ∷ due) (c ∷ rest) s → After table (items p ++ due) (c ∷ rest) (Choose k) s
+rule_step : (table : List Production) (facts : List Facts) (start end : ℕ) → Meet facts start end table → (a k c : ℕ) (p : Production) (due : List Item) (rest : List ℕ) (s : List Step) → slice_get table k ≡ Some p → p.rule ≡ a → In c p.first → Linked facts end (Rule a ∷ due) → Derives table (Rule a ∷ due) (c ∷ rest) s → After table (items p ++ due) (c ∷ rest) (Choose k) s
 rule_step table facts start end passed a k c p due rest _ at of first linked (rule {k = j} {p = q} {steps = steps} also is d) =
     let other : In c q.first = chosen_at table facts start end passed j a q due c rest steps also is linked d in
     let number : j ≡ k = passed.choice j k q p c also at (is ∙ sym of) other first in
@@ -83,18 +82,18 @@ rule_step table facts start end passed a k c p due rest _ at of first linked (ru
       left = subst (λ (r : Production). Derives table (items r ++ due) (c ∷ rest) steps) chosen d;
     }
 
-no_rule_step : (table : List Production) (facts : List Facts) (start end : ℕ) → Passed facts start end table → (a c : ℕ) (due : List Item) (rest : List ℕ) (s : List Step) → ((k : ℕ) → GoesOn table a c k → ⊥) → Linked facts end (Rule a ∷ due) → Derives table (Rule a ∷ due) (c ∷ rest) s → ⊥
+no_rule_step : (table : List Production) (facts : List Facts) (start end : ℕ) → Meet facts start end table → (a c : ℕ) (due : List Item) (rest : List ℕ) (s : List Step) → ((k : ℕ) → GoesOn table a c k → ⊥) → Linked facts end (Rule a ∷ due) → Derives table (Rule a ∷ due) (c ∷ rest) s → ⊥
 no_rule_step table facts start end passed a c due rest _ none linked (rule {k = j} {p = q} {steps = steps} also is d) =
     none j (q, also, is, chosen_at table facts start end passed j a q due c rest steps also is linked d)
 
 -- ---- between tokens
 
-pub record Stands (table : List Production) (frame : Frame) (taken : List ℕ) (steps : List Step) (due : List (Item × ℕ)) : Type 0 where
+pub record Stands (table : List Production) (frame : Frame) (facts : List Facts) (taken : List ℕ) (steps : List Step) (due : List (Item × ℕ)) : Type 0 where
   pub so_far : List ℕ
   pub sound : (rest : List ℕ) (s : List Step) → Derives table (plain due) rest s → IsText table frame (taken ++ rest) (steps ++ s)
   pub complete : (rest : List ℕ) (t : List Step) → IsText table frame (taken ++ rest) t → (s : List Step) × (t ≡ steps ++ s) × Derives table (plain due) rest s
   pub deep : (s : List Step) → token_depths table frame (steps ++ s) ≡ so_far ++ depths table due s
-  pub linked : Linked (known_of table frame) frame.end (plain due)
+  pub linked : Linked facts frame.end (plain due)
   pub closing : (front : List ℕ) → taken ≡ front ++ frame.end ∷ [] → due ≡ []
   pub shallow : All (λ depth. depth ≤ frame.deepest) so_far
   pub counted : length so_far ≡ length taken
@@ -102,23 +101,21 @@ pub record Stands (table : List Production) (frame : Frame) (taken : List ℕ) (
 
 -- ---- before a token of the class c
 
-pub record Expands (table : List Production) (frame : Frame) (c : ℕ) (taken : List ℕ) (steps : List Step) (due : List (Item × ℕ)) : Type 0 where
+pub record Expands (table : List Production) (frame : Frame) (facts : List Facts) (c : ℕ) (taken : List ℕ) (steps : List Step) (due : List (Item × ℕ)) : Type 0 where
   pub before : BeginsText table frame taken
   pub kept : (rest : List ℕ) (t : List Step) → IsText table frame (taken ++ rest) t → KeepsDepth table frame (length taken) t
   pub so_far : List ℕ
   pub sound : (rest : List ℕ) (s : List Step) → Derives table (plain due) rest s → IsText table frame (taken ++ rest) (steps ++ s)
   pub complete : (rest : List ℕ) (t : List Step) → IsText table frame (taken ++ c ∷ rest) t → (s : List Step) × (t ≡ steps ++ s) × Derives table (plain due) (c ∷ rest) s
   pub deep : (s : List Step) → token_depths table frame (steps ++ s) ≡ so_far ++ depths table due s
-  pub linked : Linked (known_of table frame) frame.end (plain due)
+  pub linked : Linked facts frame.end (plain due)
   pub shallow : All (λ depth. depth ≤ frame.deepest) so_far
   pub counted : length so_far ≡ length taken
   pub bounded : Bounded (length steps) due
 
-module _ (table : List Production) (frame : Frame) where
-  pub begins : IsPredictive table frame → Stands table frame [] [] ((Rule frame.start, 0) ∷ (Token frame.end, 0) ∷ [])
-  begins predictive =
-      let facts = known_of table frame in
-      let passed = table_passed table frame predictive in
+module _ (table : List Production) (frame : Frame) (facts : List Facts) where
+  pub begins : Meet facts frame.start frame.end table → Stands table frame facts [] [] ((Rule frame.start, 0) ∷ (Token frame.end, 0) ∷ [])
+  begins passed =
       record {
         so_far = [];
         sound = λ rest s d. d;
@@ -138,15 +135,14 @@ module _ (table : List Production) (frame : Frame) where
       let front : take (length taken) (token_depths table frame t) ≡ so_far = ap (take (length taken)) is ∙ take_at so_far rest (length taken) counted in
       subst (λ (ds : List ℕ). All (λ depth. depth ≤ frame.deepest) ds) (sym front) shallow
 
-  stands_kept : (taken : List ℕ) (steps : List Step) (due : List (Item × ℕ)) → Stands table frame taken steps due → (rest : List ℕ) (t : List Step) → IsText table frame (taken ++ rest) t → KeepsDepth table frame (length taken) t
+  stands_kept : (taken : List ℕ) (steps : List Step) (due : List (Item × ℕ)) → Stands table frame facts taken steps due → (rest : List ℕ) (t : List Step) → IsText table frame (taken ++ rest) t → KeepsDepth table frame (length taken) t
   stands_kept taken steps due stands rest t h =
       let found = stands.complete rest t h in
       kept_first taken steps due stands.so_far stands.counted stands.shallow t (depths table due found.0) (ap (token_depths table frame) found.1 ∙ stands.deep found.0)
 
-  pub enters : IsPredictive table frame → (c : ℕ) (taken : List ℕ) (steps : List Step) (due : List (Item × ℕ)) → Stands table frame taken steps due → Expands table frame c taken steps due
-  enters predictive c taken steps due stands =
-      let facts = known_of table frame in
-      let text = has_text table facts frame.start frame.end (table_passed table frame predictive) (plain due) (linked_known facts frame.end (plain due) stands.linked) in
+  pub enters : Meet facts frame.start frame.end table → (c : ℕ) (taken : List ℕ) (steps : List Step) (due : List (Item × ℕ)) → Stands table frame facts taken steps due → Expands table frame facts c taken steps due
+  enters passed c taken steps due stands =
+      let text = has_text table facts frame.start frame.end passed (plain due) (linked_known facts frame.end (plain due) stands.linked) in
       record {
         before = (text.0, steps ++ text.1, stands.sound text.0 text.1 text.2);
         kept = stands_kept taken steps due stands;
@@ -160,10 +156,8 @@ module _ (table : List Production) (frame : Frame) where
         bounded = stands.bounded;
       }
 
-  pub chooses : IsPredictive table frame → (c : ℕ) (taken : List ℕ) (steps : List Step) (a depth k : ℕ) (p : Production) (due : List (Item × ℕ)) → slice_get table k ≡ Some p → p.rule ≡ a → In c p.first → Expands table frame c taken steps ((Rule a, depth) ∷ due) → Expands table frame c taken (steps ++ Choose k ∷ []) (items_at depth (Some p) ++ due)
-  chooses predictive c taken steps a depth k p due at of first state =
-      let facts = known_of table frame in
-      let passed = table_passed table frame predictive in
+  pub chooses : Meet facts frame.start frame.end table → (c : ℕ) (taken : List ℕ) (steps : List Step) (a depth k : ℕ) (p : Production) (due : List (Item × ℕ)) → slice_get table k ≡ Some p → p.rule ≡ a → In c p.first → Expands table frame facts c taken steps ((Rule a, depth) ∷ due) → Expands table frame facts c taken (steps ++ Choose k ∷ []) (items_at depth (Some p) ++ due)
+  chooses passed c taken steps a depth k p due at of first state =
       let opened = plain_opened p depth due in
       record {
         before = state.before;
@@ -184,7 +178,7 @@ module _ (table : List Production) (frame : Frame) where
         le_one : length steps ≤ length steps + 1
         le_one = omega arith
 
-  pub takes : (c : ℕ) (taken : List ℕ) (steps : List Step) (depth : ℕ) (due : List (Item × ℕ)) → depth ≤ frame.deepest → Expands table frame c taken steps ((Token c, depth) ∷ due) → Stands table frame (taken ++ c ∷ []) (steps ++ Take ∷ []) due
+  pub takes : (c : ℕ) (taken : List ℕ) (steps : List Step) (depth : ℕ) (due : List (Item × ℕ)) → depth ≤ frame.deepest → Expands table frame facts c taken steps ((Token c, depth) ∷ due) → Stands table frame facts (taken ++ c ∷ []) (steps ++ Take ∷ []) due
   takes c taken steps depth due low state = record {
     so_far = state.so_far ++ depth ∷ [];
     sound = λ rest s d. subst (λ (ts : List ℕ). IsText table frame ts ((steps ++ Take ∷ []) ++ s)) (sym (one_on taken c rest))
@@ -206,7 +200,7 @@ module _ (table : List Production) (frame : Frame) where
   -- ---- the answers
 
   module _ (classes : List ℕ) (at : ℕ) (c : ℕ) (inside : at < length classes) (more : take (at + 1) classes ≡ take at classes ++ c ∷ []) (counts : length (take at classes) ≡ at) where
-    stuck : (steps : List Step) (due : List (Item × ℕ)) → Expands table frame c (take at classes) steps due → ((rest : List ℕ) (s : List Step) → Derives table (plain due) (c ∷ rest) s → ⊥) → IsSyntaxFault table frame classes at
+    stuck : (steps : List Step) (due : List (Item × ℕ)) → Expands table frame facts c (take at classes) steps due → ((rest : List ℕ) (s : List Step) → Derives table (plain due) (c ∷ rest) s → ⊥) → IsSyntaxFault table frame classes at
     stuck steps due state none = record {
       inside = inside;
       before = state.before;
@@ -216,21 +210,20 @@ module _ (table : List Production) (frame : Frame) where
       shallow = λ rest t h. subst (λ n. KeepsDepth table frame n t) counts (state.kept rest t h);
     }
 
-    pub stuck_at_end : (steps : List Step) → Expands table frame c (take at classes) steps [] → IsSyntaxFault table frame classes at
+    pub stuck_at_end : (steps : List Step) → Expands table frame facts c (take at classes) steps [] → IsSyntaxFault table frame classes at
     stuck_at_end steps state = stuck steps [] state (λ rest s d. nothing_due d)
 
-    pub stuck_at_token : (steps : List Step) (w depth : ℕ) (due : List (Item × ℕ)) → (w ≡ c → ⊥) → Expands table frame c (take at classes) steps ((Token w, depth) ∷ due) → IsSyntaxFault table frame classes at
+    pub stuck_at_token : (steps : List Step) (w depth : ℕ) (due : List (Item × ℕ)) → (w ≡ c → ⊥) → Expands table frame facts c (take at classes) steps ((Token w, depth) ∷ due) → IsSyntaxFault table frame classes at
     stuck_at_token steps w depth due other state =
         stuck steps ((Token w, depth) ∷ due) state (λ rest s d. other (token_step d).0)
 
-    pub stuck_at_rule : IsPredictive table frame → (steps : List Step) (a depth : ℕ) (due : List (Item × ℕ)) → ((k : ℕ) → GoesOn table a c k → ⊥) → Expands table frame c (take at classes) steps ((Rule a, depth) ∷ due) → IsSyntaxFault table frame classes at
-    stuck_at_rule predictive steps a depth due none state =
-        stuck steps ((Rule a, depth) ∷ due) state (λ rest s d. no_rule_step table (known_of table frame) frame.start frame.end (table_passed table frame predictive) a c (plain due) rest s none state.linked d)
+    pub stuck_at_rule : Meet facts frame.start frame.end table → (steps : List Step) (a depth : ℕ) (due : List (Item × ℕ)) → ((k : ℕ) → GoesOn table a c k → ⊥) → Expands table frame facts c (take at classes) steps ((Rule a, depth) ∷ due) → IsSyntaxFault table frame classes at
+    stuck_at_rule passed steps a depth due none state =
+        stuck steps ((Rule a, depth) ∷ due) state (λ rest s d. no_rule_step table facts frame.start frame.end passed a c (plain due) rest s none state.linked d)
 
-    pub too_deep : IsPredictive table frame → (steps : List Step) (depth : ℕ) (due : List (Item × ℕ)) → frame.deepest < depth → Expands table frame c (take at classes) steps ((Token c, depth) ∷ due) → IsTooDeepFault table frame classes at
-    too_deep predictive steps depth due high state =
-        let facts = known_of table frame in
-        let text = has_text table facts frame.start frame.end (table_passed table frame predictive) (plain due) (linked_known facts frame.end (plain due) state.linked.1) in
+    pub too_deep : Meet facts frame.start frame.end table → (steps : List Step) (depth : ℕ) (due : List (Item × ℕ)) → frame.deepest < depth → Expands table frame facts c (take at classes) steps ((Token c, depth) ∷ due) → IsTooDeepFault table frame classes at
+    too_deep passed steps depth due high state =
+        let text = has_text table facts frame.start frame.end passed (plain due) (linked_known facts frame.end (plain due) state.linked.1) in
         let front : (rest : List ℕ) → take (at + 1) classes ++ rest ≡ take at classes ++ c ∷ rest = λ rest. ap (λ (ts : List ℕ). ts ++ rest) more ∙ one_on (take at classes) c rest in
         record {
           inside = inside;
@@ -249,7 +242,7 @@ module _ (table : List Production) (frame : Frame) where
     pub text : IsText table frame classes steps
     pub shallow : KeepsDepth table frame (length classes) steps
 
-  pub finishes : (classes front : List ℕ) (steps : List Step) (due : List (Item × ℕ)) → classes ≡ front ++ frame.end ∷ [] → Stands table frame classes steps due → Ends classes steps
+  pub finishes : (classes front : List ℕ) (steps : List Step) (due : List (Item × ℕ)) → classes ≡ front ++ frame.end ∷ [] → Stands table frame facts classes steps due → Ends classes steps
   finishes classes front steps due is stands =
       let none : due ≡ [] = stands.closing front is in
       let left : Derives table (plain due) [] [] = subst (λ (xs : List (Item × ℕ)). Derives table (plain xs) [] []) (sym none) done in

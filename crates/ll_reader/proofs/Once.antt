@@ -8,7 +8,6 @@ use Rattle.ll_reader.specs.declared.grammar.Step.{Step}
 use Rattle.ll_reader.specs.declared.grammar.Step.TheVariants.{Take, Choose}
 use Rattle.ll_reader.specs.Derivation.{items, Derives, done, token, rule, steps_to, whole, IsText}
 use Rattle.ll_reader.specs.Predictive.{IsPredictive}
-use Rattle.ll_reader.proofs.Passing.{known_of, table_passed}
 use Rattle.ll_reader.proofs.Lookahead.{Linked, SameFront, same_steps}
 use Rattle.ll_reader.proofs.Machine.{begins}
 
@@ -63,15 +62,15 @@ unfolding Closed HasToken
 closed_whole frame = (tt, tt)
 
 module _ (table : List Production) (frame : Frame) (predictive : IsPredictive table frame) where
-  linked_whole : Linked (known_of table frame) frame.end (whole frame)
-  linked_whole = (begins table frame predictive).linked
+  linked_whole : Linked predictive.0 frame.end (whole frame)
+  linked_whole = (begins table frame predictive.0 predictive.1).linked
 
   pub begun_once : (front rest others : List ℕ) (s t : List Step) → IsText table frame (front ++ rest) s → IsText table frame (front ++ others) t → steps_to (length front) s ≡ steps_to (length front) t
   begun_once front rest others s t d e =
-      same_steps table (known_of table frame) frame.start frame.end (table_passed table frame predictive) (length front) (whole frame) (front ++ rest) (front ++ others) s t linked_whole (same_front front rest others) d e
+      same_steps table predictive.0 frame.start frame.end predictive.1 (length front) (whole frame) (front ++ rest) (front ++ others) s t linked_whole (same_front front rest others) d e
 
   pub whole_once : (ts : List ℕ) (s t : List Step) → IsText table frame ts s → IsText table frame ts t → s ≡ t
   whole_once ts s t d e =
       sym (all_steps table (whole frame) ts s (closed_whole frame) d)
-      ∙ same_steps table (known_of table frame) frame.start frame.end (table_passed table frame predictive) (length ts) (whole frame) ts ts s t linked_whole (same_all ts) d e
+      ∙ same_steps table predictive.0 frame.start frame.end predictive.1 (length ts) (whole frame) ts ts s t linked_whole (same_all ts) d e
       ∙ all_steps table (whole frame) ts t (closed_whole frame) e

@@ -1,51 +1,51 @@
--- What the test of a table says of it.
+-- A table passes the test with some facts: then these facts meet it.
 use Rattle.std.proofs.Common.{◌≡◌, ℕ, ◌+◌, ◌^◌, ◌<◌, ◌≤◌, zero, suc, max, min, Bool, true, false, not, ◌||◌, eqb, List, [], ◌∷◌, length, get_or, Some, sym, refl, ap, ◌∙◌, subst, inl, inr, ◌⊎◌, arith, slice_get}
 use Rattle.std.specs.Int.{bit_at}
 use Rattle.std.specs.Prelude.{bit_and, bit_or}
-use Rattle.std.specs.List.{list_all}
+use Rattle.std.specs.List.{list_all, list_any}
 use Rattle.std.proofs.lemmas.Bool.{and_parts, or_cases, eqb-true, ltb-true, leb-true, not-true, both_ways, cases_order, eq-eqb}
 use Rattle.std.proofs.lemmas.Nat.Bits.{bit_at_and, bit_at_or, bit_at-zero, bit_at-pow_same, bit_at-lt}
-use Rattle.std.proofs.lemmas.Option.{same_Some, none-some, slice_get-get_or}
+use Rattle.std.proofs.lemmas.Option.{same_Some, none-some}
 use Rattle.ll_reader.specs.declared.grammar.Frame.{Frame}
+use Rattle.ll_reader.specs.declared.grammar.Item.{Item}
+use Rattle.ll_reader.specs.declared.grammar.Item.TheVariants.{Token, Rule}
 use Rattle.ll_reader.specs.declared.grammar.Production.{Production}
 use Rattle.ll_reader.specs.Derivation.{items}
-use Rattle.ll_reader.specs.Predictive.{Facts, no_facts, facts_of, is_within, lead_of, can_all_be_empty, weight_of, height_of, is_linked, fits, is_apart, are_apart, production_of, all_end, passes, may_pass, passes_within, learn_all, follow_all, first_facts, IsPredictive}
-
--- the class is in the set
-abbrev pub In : ℕ → ℕ → Type 0
-In c set = bit_at set c ≡ 1
+use Rattle.ll_reader.specs.Predictive.{In, IsWithin, Facts, no_facts, facts_of, lead_of, can_all_be_empty, weight_of, height_of, AreLinked, Fits, HasEnding, Meet, IsPredictive}
+use Rattle.ll_reader.proofs.Search.{is_within, is_linked, fits, is_apart, are_apart, ends, all_end, passes, may_pass, passes_within, learn_all, follow_all, first_facts, finds}
 
 one_of_max : (x y : ℕ) → max x y ≡ y → y < 2 → x ≡ 1 → y ≡ 1
 one_of_max x y h low one = omega arith
 
-pub within_in : (p q c : ℕ) → is_within p q ≡ true → In c p → In c q
-within_in p q c h one =
+within_in : (p q : ℕ) → is_within p q ≡ true → IsWithin p q
+within_in p q h c one =
     one_of_max (bit_at p c) (bit_at q c) (sym (bit_at_or p q c) ∙ ap (λ n. bit_at n c) (eqb-true (bit_or p q) q h)) (bit_at-lt q c) one
 
 not_both_ones : (x y : ℕ) → min x y ≡ 0 → x ≡ 1 → y ≡ 1 → ⊥
 not_both_ones x y h one other = absurd (omega arith)
 
-pub apart_not : (p q c : ℕ) → bit_and p q ≡ 0 → In c p → In c q → ⊥
+apart_not : (p q c : ℕ) → bit_and p q ≡ 0 → In c p → In c q → ⊥
 apart_not p q c h one other =
     not_both_ones (bit_at p c) (bit_at q c) (sym (bit_at_and p q c) ∙ ap (λ n. bit_at n c) h ∙ bit_at-zero c) one other
 
+-- a class is in the set of itself
 pub pow_in : (c : ℕ) → In c (2 ^ c)
 pow_in c = bit_at-pow_same c
-
--- what the test says of a production
-pub record Fits (facts : List Facts) (end : ℕ) (p : Production) : Type 0 where
-  pub known : p.rule < length facts
-  pub room : p.length ≤ 12
-  pub lead : is_within (lead_of facts (facts_of facts p.rule).follow (items p)) p.first ≡ true
-  pub own : is_within p.first (facts_of facts p.rule).lead ≡ true
-  pub linked : is_linked facts end (facts_of facts p.rule).follow (items p) ≡ true
-  pub lighter : weight_of facts (items p) < (facts_of facts p.rule).weight
-  pub empty : ((facts_of facts p.rule).can_be_empty ≡ true) ⊎ (can_all_be_empty facts (items p) ≡ false)
 
 or_not : (x y : Bool) → (x || not y) ≡ true → (x ≡ true) ⊎ (y ≡ false)
 or_not true y h = inl refl
 or_not false true h = cc
 or_not false false h = inr refl
+
+are_linked : (facts : List Facts) (end behind : ℕ) (xs : List Item) → is_linked facts end behind xs ≡ true → AreLinked facts end behind xs
+are_linked facts end behind [] h = tt
+are_linked facts end behind (Token c ∷ xs) h =
+    let a = and_parts _ _ h in
+    ((λ same. both_ways (eqb c end) (not-true (eqb c end) a.0) (eq-eqb c end same)), are_linked facts end behind xs a.1)
+are_linked facts end behind (Rule r ∷ xs) h =
+    let a = and_parts _ _ h in
+    let b = and_parts _ _ a.0 in
+    (ltb-true r (length facts) b.0, within_in (lead_of facts behind xs) (facts_of facts r).follow b.1, are_linked facts end behind xs a.1)
 
 fits_Fits : (facts : List Facts) (end : ℕ) (p : Production) → fits facts end p ≡ true → Fits facts end p
 fits_Fits facts end p h =
@@ -58,9 +58,9 @@ fits_Fits facts end p h =
     record {
       known = ltb-true p.rule (length facts) f.0;
       room = leb-true p.length 12 f.1;
-      lead = e.1;
-      own = d.1;
-      linked = c.1;
+      lead = within_in (lead_of facts (facts_of facts p.rule).follow (items p)) p.first e.1;
+      own = within_in p.first (facts_of facts p.rule).lead d.1;
+      linked = are_linked facts end (facts_of facts p.rule).follow (items p) c.1;
       lighter = ltb-true (weight_of facts (items p)) (facts_of facts p.rule).weight b.1;
       empty = or_not (facts_of facts p.rule).can_be_empty (can_all_be_empty facts (items p)) a.1;
     }
@@ -69,6 +69,13 @@ all_get : {X : Type 0} (test : X → Bool) (xs : List X) (k : ℕ) (x : X) → l
 all_get test [] k x all at = absurd (none-some x at)
 all_get test (y ∷ ys) zero x all at = ap test (sym (same_Some y x at)) ∙ (and_parts (test y) (list_all test ys) all).0
 all_get test (y ∷ ys) (suc k) x all at = all_get test ys k x (and_parts (test y) (list_all test ys) all).1 at
+
+any_get : {X : Type 0} (test : X → Bool) (xs : List X) → list_any test xs ≡ true → (k : ℕ) × (x : X) × (slice_get xs k ≡ Some x) × (test x ≡ true)
+any_get test [] h = absurd (cc)
+any_get test (y ∷ ys) h = elim (or_cases (test y) (list_any test ys) h) [
+  | inl here ↦ (0, y, refl, here)
+  | inr later ↦ let r = any_get test ys later in (suc r.0, r.1, r.2, r.3)
+]
 
 apart_at : (ps : List Production) (j k : ℕ) (p q : Production) → are_apart ps ≡ true → slice_get ps j ≡ Some p → slice_get ps k ≡ Some q → j < k → is_apart p q ≡ true
 apart_at [] j k p q h at other below = absurd (none-some p at)
@@ -86,46 +93,32 @@ apart_choice p q c h same one other =
       | inr none ↦ apart_not p.first q.first c (eqb-true (bit_and p.first q.first) 0 none) one other
     ]
 
--- a production of the rule whose items are no higher
-pub record EndsAt (table : List Production) (facts : List Facts) (a : ℕ) : Type 0 where
-  pub number : ℕ
-  pub production : Production
-  pub at : slice_get table number ≡ Some production
-  pub of : production.rule ≡ a
-  pub low : height_of facts (items production) ≤ (facts_of facts a).height
+and_then : (b c : Bool) → (elim b [ true ↦ c | false ↦ false ]) ≡ true → (b ≡ true) × (c ≡ true)
+and_then true c h = (refl, h)
+and_then false c h = absurd (cc)
 
 plus_none : (n : ℕ) → n + 0 ≡ n
 plus_none n = omega arith
 
-ends_at : (table : List Production) (facts : List Facts) (fs : List Facts) (from i : ℕ) → all_end table facts from fs ≡ true → i < length fs → get_or fs i no_facts ≡ facts_of facts (from + i) → EndsAt table facts (from + i)
-ends_at table facts [] from i h inside same = absurd (omega arith)
-ends_at table facts (f ∷ fs) from zero h inside same =
+has_ending : (table : List Production) (facts : List Facts) (fs : List Facts) (from i : ℕ) → all_end table facts from fs ≡ true → i < length fs → get_or fs i no_facts ≡ facts_of facts (from + i) → HasEnding table facts (from + i)
+has_ending table facts [] from i h inside same = absurd (omega arith)
+has_ending table facts (f ∷ fs) from zero h inside same =
     let a = and_parts _ _ h in
-    let b = and_parts _ _ a.0 in
-    let c = and_parts _ _ b.0 in
-    let p = production_of table f.ending in
+    let e = any_get (ends facts from f.height) table a.0 in
+    let is = and_then (eqb e.1.rule from) _ e.3 in
     record {
-      number = f.ending;
-      production = p;
-      at = slice_get-get_or table f.ending _ (ltb-true f.ending (length table) c.0);
-      of = eqb-true p.rule from c.1 ∙ sym (plus_none from);
-      low = subst (λ (g : Facts). height_of facts (items p) ≤ g.height) same (leb-true (height_of facts (items p)) f.height b.1);
+      number = e.0;
+      production = e.1;
+      at = e.2;
+      of = eqb-true e.1.rule from is.0 ∙ sym (plus_none from);
+      low = subst (λ (g : Facts). height_of facts (items e.1) ≤ g.height) same (leb-true (height_of facts (items e.1)) f.height is.1);
     }
-ends_at table facts (f ∷ fs) from (suc i) h inside same =
+has_ending table facts (f ∷ fs) from (suc i) h inside same =
     let e : (from + 1) + i ≡ from + suc i = omega arith in
     let less : i < length fs = omega arith in
-    subst (EndsAt table facts) e (ends_at table facts fs (from + 1) i (and_parts _ _ h).1 less (same ∙ ap (facts_of facts) (sym e)))
+    subst (HasEnding table facts) e (has_ending table facts fs (from + 1) i (and_parts _ _ h).1 less (same ∙ ap (facts_of facts) (sym e)))
 
--- what the test says of a table
-pub record Passed (facts : List Facts) (start end : ℕ) (table : List Production) : Type 0 where
-  pub few : length table < 65536
-  pub start_known : start < length facts
-  pub end_follows : In end (facts_of facts start).follow
-  pub each : (k : ℕ) (p : Production) → slice_get table k ≡ Some p → Fits facts end p
-  pub choice : (j k : ℕ) (p q : Production) (c : ℕ) → slice_get table j ≡ Some p → slice_get table k ≡ Some q → p.rule ≡ q.rule → In c p.first → In c q.first → j ≡ k
-  pub ending : (a : ℕ) → a < length facts → EndsAt table facts a
-
-passed : (facts : List Facts) (start end : ℕ) (table : List Production) → are_apart table ≡ true → passes facts start end table ≡ true → Passed facts start end table
+passed : (facts : List Facts) (start end : ℕ) (table : List Production) → are_apart table ≡ true → passes facts start end table ≡ true → Meet facts start end table
 passed facts start end table apart h =
     let a = and_parts _ _ h in
     let b = and_parts _ _ a.0 in
@@ -134,21 +127,21 @@ passed facts start end table apart h =
     record {
       few = ltb-true (length table) 65536 d.0;
       start_known = ltb-true start (length facts) d.1;
-      end_follows = within_in (2 ^ end) (facts_of facts start).follow end c.1 (pow_in end);
+      end_follows = within_in (2 ^ end) (facts_of facts start).follow c.1 end (pow_in end);
       each = λ k p at. fits_Fits facts end p (all_get (fits facts end) table k p b.1 at);
       choice = λ j k p q c at other same one both. elim (cases_order j k) [
         | inl equal ↦ equal
         | inr (inl below) ↦ absurd (apart_choice p q c (apart_at table j k p q apart at other below) same one both)
         | inr (inr above) ↦ absurd (apart_choice q p c (apart_at table k j q p apart other at above) (sym same) both one)
       ];
-      ending = λ i inside. let e : 0 + i ≡ i = omega arith in subst (EndsAt table facts) e (ends_at table facts facts 0 i a.1 inside (ap (facts_of facts) (sym e)));
+      ending = λ i inside. let e : 0 + i ≡ i = omega arith in subst (HasEnding table facts) e (has_ending table facts facts 0 i a.1 inside (ap (facts_of facts) (sym e)));
     }
 
 -- the facts with which a table passes
 settled : ℕ → List Facts → ℕ → ℕ → List Production → List Facts
 settled zero facts start end table = facts
 settled (suc n) facts start end table =
-    elim (passes facts start end table) [ true ↦ facts | false ↦ settled n (follow_all (learn_all facts 0 table) table) start end table ]
+    elim (passes facts start end table) [ true ↦ facts | false ↦ settled n (follow_all (learn_all facts table) table) start end table ]
 
 of_more : (b rest : Bool) → (elim b [ true ↦ rest | false ↦ false ]) ≡ true → rest ≡ true
 of_more true rest h = h
@@ -158,7 +151,7 @@ settles : (n : ℕ) (facts : List Facts) (start end : ℕ) (table : List Product
 unfolding settled
 settles zero facts start end table h = cc
 settles (suc n) facts start end table h =
-    let next = follow_all (learn_all facts 0 table) table in
+    let next = follow_all (learn_all facts table) table in
     let more : Bool = elim (may_pass facts table) [ true ↦ passes_within n next start end table | false ↦ false ] in
     let Goal : Bool → Type 0 = λ b. passes facts start end table ≡ b → (elim b [ true ↦ true | false ↦ more ]) ≡ true → passes (elim b [ true ↦ facts | false ↦ settled n next start end table ]) start end table ≡ true in
     (elim (passes facts start end table) as Goal [
@@ -166,17 +159,23 @@ settles (suc n) facts start end table h =
       | false ↦ λ _ rest. settles n next start end table (of_more (may_pass facts table) (passes_within n next start end table) rest)
     ]) refl h
 
-pub known_of : List Production → Frame → List Facts
-known_of table frame = settled (length table) (first_facts frame.start frame.end table) frame.start frame.end table
+-- the facts that the search finds for a table
+pub found : List Production → Frame → List Facts
+found table frame = settled (length table) (first_facts frame.start frame.end table) frame.start frame.end table
 
-pub table_passed : (table : List Production) (frame : Frame) → IsPredictive table frame → Passed (known_of table frame) frame.start frame.end table
-unfolding known_of IsPredictive
-table_passed table frame h =
+-- they meet it where it passes the test
+pub found_meet : (table : List Production) (frame : Frame) → finds table frame ≡ true → Meet (found table frame) frame.start frame.end table
+unfolding found finds
+found_meet table frame h =
     let facts = first_facts frame.start frame.end table in
     let Goal : Bool → Type 0 = λ b. are_apart table ≡ b
     → (elim b [ true ↦ passes_within (length table) facts frame.start frame.end table | false ↦ false ]) ≡ true
-    → Passed (known_of table frame) frame.start frame.end table in
+    → Meet (found table frame) frame.start frame.end table in
     (elim (are_apart table) as Goal [
-      | true ↦ λ apart passes. passed (known_of table frame) frame.start frame.end table apart (settles (length table) facts frame.start frame.end table passes)
+      | true ↦ λ apart passes. passed (found table frame) frame.start frame.end table apart (settles (length table) facts frame.start frame.end table passes)
       | false ↦ λ _ never. cc
     ]) refl h
+
+-- such a table is predictive
+pub is_predictive : (table : List Production) (frame : Frame) → finds table frame ≡ true → IsPredictive table frame
+is_predictive table frame h = (found table frame, found_meet table frame h)

@@ -4,8 +4,7 @@ use Rattle.ll_reader.specs.declared.grammar.Item.{Item}
 use Rattle.ll_reader.specs.declared.grammar.Item.TheVariants.{Token, Rule}
 use Rattle.ll_reader.specs.declared.grammar.Production.{Production}
 use Rattle.ll_reader.specs.Derivation.{items}
-use Rattle.ll_reader.specs.Predictive.{Facts, facts_of, weight_of, can_all_be_empty}
-use Rattle.ll_reader.proofs.Passing.{Passed}
+use Rattle.ll_reader.specs.Predictive.{Facts, facts_of, weight_of, can_all_be_empty, Meet}
 
 cond_sum : (w rest behind : ℕ) (b others : Bool) → w + cond b (rest + cond others behind 0) 0 ≡ (w + cond b rest 0) + cond (b && others) behind 0
 cond_sum w rest behind true others = omega arith
@@ -25,7 +24,7 @@ lighter_sum w inner behind false true less (inl h) = cc
 lighter_sum w inner behind false true less (inr h) = cc
 lighter_sum w inner behind false false less h = omega arith
 
-pub lighter : (table : List Production) (facts : List Facts) (start end : ℕ) → Passed facts start end table → (k a : ℕ) (p : Production) (due : List Item) → slice_get table k ≡ Some p → p.rule ≡ a → weight_of facts (items p ++ due) < weight_of facts (Rule a ∷ due)
+pub lighter : (table : List Production) (facts : List Facts) (start end : ℕ) → Meet facts start end table → (k a : ℕ) (p : Production) (due : List Item) → slice_get table k ≡ Some p → p.rule ≡ a → weight_of facts (items p ++ due) < weight_of facts (Rule a ∷ due)
 lighter table facts start end passed k a p due at of =
     let fits = passed.each k p at in
     let less = lighter_sum (facts_of facts p.rule).weight (weight_of facts (items p)) (weight_of facts due) (facts_of facts p.rule).can_be_empty (can_all_be_empty facts (items p)) fits.lighter fits.empty in

@@ -1,5 +1,5 @@
 -- What a reader answers to classes that are no text, or one that is nested too deep.
-use Rattle.std.specs.Prelude.{◌<◌, ℕ, ◌+◌, List, ◌++◌, length, take}
+use Rattle.std.specs.Prelude.{◌<◌, ◌⊎◌, ℕ, ◌+◌, List, ◌++◌, length, take}
 use Rattle.ll_reader.specs.declared.grammar.Frame.{Frame}
 use Rattle.ll_reader.specs.declared.grammar.Production.{Production}
 use Rattle.ll_reader.specs.declared.grammar.Step.{Step}
@@ -29,3 +29,9 @@ abbrev pub IsFault : List Production → Frame → List ℕ → ReadError → Ty
 IsFault table frame classes (Syntax at) = IsSyntaxFault table frame classes at
 IsFault table frame classes (TooDeep at) = IsTooDeepFault table frame classes at
 IsFault table frame classes (Memory error) = Unit {0}
+
+-- the classes are a text that keeps the depth, or have a fault
+abbrev pub HasAnswer : List Production → Frame → List ℕ → Type 0
+HasAnswer table frame classes =
+    ((steps : List Step) × IsText table frame classes steps × KeepsDepth table frame (length classes) steps)
+    ⊎ ((at : ℕ) × (IsSyntaxFault table frame classes at ⊎ IsTooDeepFault table frame classes at))

@@ -2,5 +2,4 @@ pub mod Derivation
 pub mod Depth
 pub mod Predictive
 pub mod Answer
-pub mod Choice
-pub mod Memory
+pub mod Private

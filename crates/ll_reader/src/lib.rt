@@ -5,9 +5,7 @@ mod grammar;
 mod laws;
 mod production;
 mod reader;
-#[cfg(test)]
-mod tests;
 
 pub use grammar::{Body, Frame, Item, Production, Step};
-pub use laws::steps_are_determined;
+pub use laws::{steps_are_determined, text_or_fault};
 pub use reader::{ReadError, read};

@@ -2,10 +2,10 @@ ghost use Rattle.std.specs.Prelude.{◌≡◌, ◌≤◌, ◌<◌, ◌+◌, ◌^
 ghost use Rattle.std.specs.Int.{bit_at};
 ghost use Rattle.ll_reader.specs.Derivation.{IsText, places, items};
 ghost use Rattle.ll_reader.specs.Depth.{items_at, KeepsDepth};
-ghost use Rattle.ll_reader.specs.Predictive.{IsPredictive};
-ghost use Rattle.ll_reader.specs.Choice.{IsBelow, GoesOn};
+ghost use Rattle.ll_reader.specs.Predictive.{Facts, Meet};
+ghost use Rattle.ll_reader.specs.Private.Choice.{IsBelow, GoesOn};
 ghost use Rattle.ll_reader.specs.Answer.{IsFault};
-ghost use Rattle.ll_reader.specs.Memory.{IsMemory};
+ghost use Rattle.ll_reader.specs.Private.Memory.{IsMemory};
 
 use crate::grammar::{Body, Frame, Item, Production, Step};
 use std::alloc::{AllocError, AllocFailed, Global};
@@ -47,7 +47,8 @@ pub fn read(
     frame: Frame,
     classes: &[u8],
 ) -> Result<Vec<Step>, ReadError>
-    requires predictive { IsPredictive table.now frame }
+    ghost facts: { List Facts }
+    requires predictive { Meet facts frame.start frame.end table.now }
     requires ends { (front : List ℕ) × (classes.now ≡ front ++ frame.end ∷ []) }
     ensures text { IfOk result (λ steps. IsText table.now frame classes.now steps.items) }
     ensures shallow { IfOk result (λ steps. KeepsDepth table.now frame (length classes.now) steps.items) }

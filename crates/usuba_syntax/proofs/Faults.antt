@@ -1,5 +1,6 @@
 -- What the reader answers to the classes of tokens, as faults of the tokens.
 use Rattle.std.proofs.Common.{◌≡◌, ◌<◌, ◌≤◌, ◌+◌, ◌-◌, ℕ, zero, suc, List, [], ◌∷◌, ◌++◌, length, take, drop, refl, sym, ap, ◌∙◌, subst, arith, ◌⊎◌, inl, inr, length-append}
+use Rattle.std.specs.Prelude.{IfSome}
 use Rattle.std.proofs.Math.Seq.{take-add}
 use Rattle.std.proofs.lemmas.Bool.{cases_lt}
 use Rattle.std.proofs.lemmas.List.{append-nil, length-map, take-append-le, take-append-drop, take-map, take_all}
@@ -12,10 +13,10 @@ use Rattle.ll_reader.specs.declared.reader.ReadError.TheVariants as read
 use Rattle.tor_edge.specs.declared.place.Place.{Place}
 use Rattle.usuba_syntax.specs.Classes.{class_of, behind}
 use Rattle.usuba_syntax.specs.Files.{IsFile, BeginsFile}
-use Rattle.usuba_syntax.specs.Sources.{place_at, IsWrongAtEnd, IsSyntaxFault, at_token, at_end, IsNumberTooBig, IsTooDeep, IsFaultless, IsFirstFault}
+use Rattle.usuba_syntax.specs.Sources.{place_at, IsWrongAtEnd, IsSyntaxFault, at_token, at_end, IsNumberTooBig, IsTooDeep, IsFaultless, IsFirstFault, fault_of}
 use Rattle.usuba_syntax.specs.declared.class.TheConstants as class
+use Rattle.usuba_syntax.specs.SourceFaults as fault
 use Rattle.usuba_syntax.specs.declared.read.ReadFault.{ReadFault}
-use Rattle.usuba_syntax.specs.declared.read.ReadFault.TheVariants as fault
 use Rattle.usuba_syntax.specs.declared.table.TheConstants.{PRODUCTIONS, FRAME}
 use Rattle.usuba_syntax.proofs.Begun.{begins_file, begins_text, begins_shorter, file_text, broken_begins_none, same_text, same_begun}
 use Rattle.usuba_syntax.proofs.NestedFaults.{AreEnds, shallow_text, shallow_before_syntax, shallow_before_deep, too_deep, deep_inside}
@@ -210,5 +211,6 @@ deep_told tokens end error at h e =
     let P : ReadError → Type 0 = answer.IsFault PRODUCTIONS FRAME (classes tokens ++ behind end) in
     deep_at tokens end at (subst P e h)
 
-pub same_first_fault : (tokens : List Token) (end : Ending) {f g : ReadFault} → f ≡ g → IsFirstFault tokens end g → IsFirstFault tokens end f
-same_first_fault tokens end e h = let P : ReadFault → Type 0 = IsFirstFault tokens end in subst P (sym e) h
+-- an error that tells the first fault
+pub same_first_fault : (tokens : List Token) (end : Ending) {f g : ReadFault} → f ≡ g → IfSome (fault_of g) (IsFirstFault tokens end) → IfSome (fault_of f) (IsFirstFault tokens end)
+same_first_fault tokens end e h = let P : ReadFault → Type 0 = λ r. IfSome (fault_of r) (IsFirstFault tokens end) in subst P (sym e) h

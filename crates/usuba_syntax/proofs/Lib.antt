@@ -1,6 +1,7 @@
 mod Backwards
 mod Begun
 mod Complete
+mod Coverage
 mod Evaluation
 mod Faults
 mod Made

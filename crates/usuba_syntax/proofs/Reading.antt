@@ -1,23 +1,28 @@
 -- What is read of bytes, from what the reader answers to the classes of their tokens.
-use Rattle.std.proofs.Common.{◌≡◌, ◌<◌, ℕ, List, [], ◌∷◌, ◌++◌, length, slice_get, Some, Result, Ok, Err, refl, sym, ap, ◌∙◌, subst, arith, append_assoc}
+use Rattle.std.proofs.Common.{◌≡◌, ◌<◌, ℕ, List, [], ◌∷◌, ◌++◌, length, slice_get, Option, Some, None, Result, Ok, Err, refl, sym, ap, ◌∙◌, subst, arith, append_assoc}
+use Rattle.std.specs.Prelude.{IfSome}
 use Rattle.std.specs.Result.{IsErrAnd, IfErr}
 use Rattle.std.specs.declared.alloc.AllocError.{AllocError}
 use Rattle.ll_reader.specs.Answer.{IsFault}
 use Rattle.ll_reader.specs.Depth.{KeepsDepth}
 use Rattle.ll_reader.specs.Derivation.{IsText}
-use Rattle.ll_reader.specs.Predictive.{IsPredictive}
+use Rattle.ll_reader.specs.Predictive.{Meet}
+use Rattle.ll_reader.proofs.Search.{finds}
+use Rattle.ll_reader.proofs.Passing.{found, found_meet}
 use Rattle.ll_reader.specs.declared.grammar.Step.{Step}
 use Rattle.ll_reader.specs.declared.reader.ReadError.{ReadError}
 use Rattle.usuba_syntax.specs.Classes.{behind}
 use Rattle.usuba_syntax.specs.Files.{IsFile}
-use Rattle.usuba_syntax.specs.Sources.{place_at, IsNumberTooBig, IsFirstFault, SpellsFile, HasFault, IsOrMemory, IsOfBytes}
+use Rattle.usuba_syntax.specs.Sources.{place_at, IsNumberTooBig, IsFirstFault, SpellsFile, HasFault, fault_of, IsOrMemory}
 use Rattle.usuba_syntax.specs.Values.{HasValue}
 use Rattle.usuba_syntax.specs.declared.class.TheConstants as class
 use Rattle.usuba_syntax.specs.declared.read.ReadFault.{ReadFault}
-use Rattle.usuba_syntax.specs.declared.read.ReadFault.TheVariants as fault
+use Rattle.usuba_syntax.specs.SourceFaults.{SourceFault}
+use Rattle.usuba_syntax.specs.SourceFaults as fault
+use Rattle.usuba_syntax.specs.declared.read.ReadFault.TheVariants as error
 use Rattle.usuba_syntax.specs.declared.table.TheConstants.{PRODUCTIONS, FRAME}
 use Rattle.usuba_syntax.proofs.Begun.{same_text}
-use Rattle.usuba_syntax.proofs.Faults.{text_ends, text_sound, first_big, same_first_fault, IsSound}
+use Rattle.usuba_syntax.proofs.Faults.{text_ends, text_sound, first_big, IsSound}
 use Rattle.usuba_syntax.proofs.Runs.{classes}
 use Rattle.usuba_syntax.proofs.Texts.{file_of_text}
 use Rattle.usuba_tokens.specs.Tokens.{Spells, start}
@@ -26,9 +31,9 @@ use Rattle.usuba_tokens.specs.declared.token.Ending.TheVariants as ending
 use Rattle.usuba_tokens.specs.declared.token.Token.{Token}
 use Rattle.usuba_trees.specs.declared.File.{File}
 
-pub predictive : IsPredictive PRODUCTIONS FRAME
-unfolding IsPredictive
-predictive = refl
+pub predictive : Meet (found PRODUCTIONS FRAME) FRAME.start FRAME.end PRODUCTIONS
+unfolding finds
+predictive = found_meet PRODUCTIONS FRAME refl
 
 -- the end stands last
 pub ends_last : (tokens : List Token) (end : Ending) → (front : List ℕ) × (classes tokens ++ behind end ≡ front ++ class.END ∷ [])
@@ -76,22 +81,6 @@ pub taken_too_big : (tokens : List Token) (end : Ending) (steps : List Step) (k 
 taken_too_big tokens end steps k d keeps small big =
     first_big tokens end k (λ j h. taken_sound tokens end steps d keeps j) small big
 
--- ---- only
-
-pub is_wanted : (answer wanted : Result File ReadFault) → answer ≡ wanted → IsOrMemory answer wanted
-is_wanted (Ok file) wanted e = e
-is_wanted (Err (fault.Syntax at)) wanted e = e
-is_wanted (Err (fault.TooDeep at)) wanted e = e
-is_wanted (Err (fault.NumberTooBig at)) wanted e = e
-is_wanted (Err (fault.Memory error)) wanted e = tt
-
--- an answer that is a fault of the bytes, or no fault at all
-pub unless_memory : (f : ReadFault) (wanted : Result File ReadFault) → (IsOfBytes f → Err f ≡ wanted) → IsOrMemory (Err f) wanted
-unless_memory (fault.Syntax at) wanted h = h tt
-unless_memory (fault.TooDeep at) wanted h = h tt
-unless_memory (fault.NumberTooBig at) wanted h = h tt
-unless_memory (fault.Memory error) wanted h = tt
-
 -- ---- what the calls of `read_file` tell
 
 -- the classes that the reader takes are those of the tokens and what stands behind them
@@ -111,43 +100,56 @@ same_told tokens shown end given error g e h =
     let both : given ≡ classes shown ++ behind end = g ∙ ap (λ ts. classes ts ++ behind end) (sym e) in
     subst P both h
 
+-- an error that tells a fault of the bytes
+abbrev pub Tells : List ℕ → ReadFault → Type 0
+Tells bytes error = IfSome (fault_of error) (HasFault bytes)
+
 pub too_big_told : (bytes : List ℕ) (tokens shown also : List Token) (end : Ending) (steps : List Step) (at : ℕ) (result : ReadFault) → Spells start bytes tokens end →
     IsText PRODUCTIONS FRAME (classes tokens ++ behind end) steps → KeepsDepth PRODUCTIONS FRAME (length (classes tokens ++ behind end)) steps →
     shown ≡ tokens → also ≡ tokens → IsNumberTooBig shown at → ((j : ℕ) → j < at → ¬ IsNumberTooBig shown j) →
-    result ≡ fault.NumberTooBig (place_at also end at) → HasFault bytes result
+    result ≡ error.NumberTooBig (place_at also end at) → Tells bytes result
 too_big_told bytes tokens shown also end steps at result s d keeps e e' big small r =
     let P : List Token → Type 0 = λ ts. IsNumberTooBig ts at in
     let Q : List Token → Type 0 = λ ts. (j : ℕ) → j < at → ¬ IsNumberTooBig ts j in
-    let named : result ≡ fault.NumberTooBig (place_at tokens end at) = r ∙ ap (λ ts. fault.NumberTooBig (place_at ts end at)) e' in
-    (tokens, end, s, same_first_fault tokens end named (taken_too_big tokens end steps at d keeps (subst Q e small) (subst P e big)))
+    let named : result ≡ error.NumberTooBig (place_at tokens end at) = r ∙ ap (λ ts. error.NumberTooBig (place_at ts end at)) e' in
+    subst (Tells bytes) (sym named) (tokens, end, s, taken_too_big tokens end steps at d keeps (subst Q e small) (subst P e big))
+
+-- the fault of the tokens is that of the bytes
+told_of : (bytes : List ℕ) (tokens : List Token) (end : Ending) (result : ReadFault) → Spells start bytes tokens end →
+    IfSome (fault_of result) (IsFirstFault tokens end) → Tells bytes result
+told_of bytes tokens end (error.Syntax at) s h = (tokens, end, s, h)
+told_of bytes tokens end (error.TooDeep at) s h = (tokens, end, s, h)
+told_of bytes tokens end (error.NumberTooBig at) s h = (tokens, end, s, h)
+told_of bytes tokens end (error.Memory e) s h = tt
 
 pub fault_told : (bytes : List ℕ) (tokens shown : List Token) (end : Ending) (result : ReadFault) → Spells start bytes tokens end → shown ≡ tokens →
-    IsFirstFault shown end result → HasFault bytes result
+    IfSome (fault_of result) (IsFirstFault shown end) → Tells bytes result
 fault_told bytes tokens shown end result s e h =
-    let P : List Token → Type 0 = λ ts. IsFirstFault ts end result in
-    (tokens, end, s, subst P e h)
+    let P : List Token → Type 0 = λ ts. IfSome (fault_of result) (IsFirstFault ts end) in
+    told_of bytes tokens end result s (subst P e h)
 
--- want of memory is said of any bytes
-pub memory_told : (bytes : List ℕ) (r : Result File ReadFault) (error : AllocError) → IsErrAnd r (λ f. f ≡ fault.Memory error) →
-    ((found : List Token) × (end : Ending) × Spells start bytes found end) → IfErr r (HasFault bytes)
-memory_told bytes (Ok file) error h (tokens, end, s) = absurd h
-memory_told bytes (Err f) error e (tokens, end, s) =
-    let P : ReadFault → Type 0 = HasFault bytes in
-    subst P (sym e) (tokens, end, s, (0, (λ j h. absurd (omega arith)), tt))
+-- want of memory tells nothing of the bytes
+pub memory_told : (bytes : List ℕ) (r : Result File ReadFault) (e : AllocError) → IsErrAnd r (λ f. f ≡ error.Memory e) → IfErr r (Tells bytes)
+memory_told bytes (Ok file) e h = absurd h
+memory_told bytes (Err f) e same = subst (Tells bytes) (sym same) tt
 
 -- an answer that is a file, or the fault, of these bytes is the only one
 pub only_file_if_file : (bytes : List ℕ) (file : File) → ((first second : File) → SpellsFile bytes first → SpellsFile bytes second → first ≡ second) →
     SpellsFile bytes file → (other : File) → SpellsFile bytes other → IsOrMemory (Ok file) (Ok other)
 only_file_if_file bytes file one h other also = ap Ok (one file other h also)
 
-pub only_fault_if_file : (bytes : List ℕ) (file : File) → ((first : File) (f : ReadFault) → IsOfBytes f → SpellsFile bytes first → ¬ HasFault bytes f) →
-    SpellsFile bytes file → (f : ReadFault) → IsOfBytes f → HasFault bytes f → IsOrMemory (Ok file) (Err f)
-only_fault_if_file bytes file apart h f o has = absurd (apart file f o h has)
+pub only_fault_if_file : (bytes : List ℕ) (file : File) → ((first : File) (f : SourceFault) → SpellsFile bytes first → ¬ HasFault bytes f) →
+    SpellsFile bytes file → (f : SourceFault) → HasFault bytes f → IsOrMemory (Ok file) (Err f)
+only_fault_if_file bytes file apart h f has = absurd (apart file f h has)
 
-pub only_file_if_fault : (bytes : List ℕ) (f : ReadFault) → ((first : File) (other : ReadFault) → IsOfBytes other → SpellsFile bytes first → ¬ HasFault bytes other) →
-    HasFault bytes f → (file : File) → SpellsFile bytes file → IsOrMemory (Err f) (Ok file)
-only_file_if_fault bytes f apart has file h = unless_memory f (Ok file) (λ o. absurd (apart file f o h has))
+if_some : {X : Type 0} {P Q : X → Type 0} (o : Option X) → ((x : X) → P x → Q x) → IfSome o P → IfSome o Q
+if_some None f h = tt
+if_some (Some x) f h = f x h
 
-pub only_fault_if_fault : (bytes : List ℕ) (f : ReadFault) → ((first second : ReadFault) → IsOfBytes first → IsOfBytes second → HasFault bytes first → HasFault bytes second → first ≡ second) →
-    HasFault bytes f → (other : ReadFault) → IsOfBytes other → HasFault bytes other → IsOrMemory (Err f) (Err other)
-only_fault_if_fault bytes f one has other o also = unless_memory f (Err other) (λ p. ap Err (one f other p o has also))
+pub only_file_if_fault : (bytes : List ℕ) (e : ReadFault) → ((first : File) (f : SourceFault) → SpellsFile bytes first → ¬ HasFault bytes f) →
+    Tells bytes e → (file : File) → SpellsFile bytes file → IsOrMemory (Err e) (Ok file)
+only_file_if_fault bytes e apart tells file h = if_some (fault_of e) (λ f has. absurd (apart file f h has)) tells
+
+pub only_fault_if_fault : (bytes : List ℕ) (e : ReadFault) → ((first second : SourceFault) → HasFault bytes first → HasFault bytes second → first ≡ second) →
+    Tells bytes e → (other : SourceFault) → HasFault bytes other → IsOrMemory (Err e) (Err other)
+only_fault_if_fault bytes e one tells other also = if_some (fault_of e) (λ f has. ap Err (one f other has also)) tells

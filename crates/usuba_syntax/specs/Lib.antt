@@ -5,6 +5,7 @@ pub mod Items
 pub mod Declarations
 pub mod Files
 pub mod Nesting
+pub mod SourceFaults
 pub mod Sources
 pub mod Classes
 pub mod Values

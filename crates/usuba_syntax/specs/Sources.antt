@@ -1,10 +1,12 @@
 -- Which file the bytes of a source spell, and its faults.
-use Rattle.std.specs.Prelude.{◌≡◌, ◌<◌, ℕ, zero, suc, ◌+◌, List, [], ◌∷◌, length, take, Some, None, Result, Err, slice_get, slice_index}
+use Rattle.std.specs.Prelude.{◌≡◌, ◌<◌, ℕ, zero, suc, ◌+◌, List, [], ◌∷◌, length, take, Option, Some, None, IfSome, Result, Ok, Err, slice_get, slice_index}
 use Rattle.tor_edge.specs.declared.place.Place.{Place}
 use Rattle.usuba_syntax.specs.Files.{IsFile, BeginsFile}
 use Rattle.usuba_syntax.specs.Nesting.{open_counts}
+use Rattle.usuba_syntax.specs.SourceFaults.{SourceFault}
+use Rattle.usuba_syntax.specs.SourceFaults as fault
 use Rattle.usuba_syntax.specs.declared.read.ReadFault.{ReadFault}
-use Rattle.usuba_syntax.specs.declared.read.ReadFault.TheVariants as fault
+use Rattle.usuba_syntax.specs.declared.read.ReadFault.TheVariants as error
 use Rattle.usuba_tokens.specs.Tokens.{Spells, start}
 use Rattle.usuba_tokens.specs.declared.token.Ending.{Ending}
 use Rattle.usuba_tokens.specs.declared.token.Ending.TheVariants as ending
@@ -45,15 +47,14 @@ pub record IsFaultless (tokens : List Token) (end : Ending) (k : ℕ) : Type 0 w
 
 -- What a fault says of the token at k. At one token a number too big comes before wrong syntax, and that before nesting too
 -- deep.
-abbrev pub IsFaultAt : List Token → Ending → ReadFault → ℕ → Type 0
+abbrev pub IsFaultAt : List Token → Ending → SourceFault → ℕ → Type 0
 IsFaultAt tokens end (fault.NumberTooBig at) k = (at ≡ place_at tokens end k) × IsNumberTooBig tokens k
 IsFaultAt tokens end (fault.Syntax at) k = (at ≡ place_at tokens end k) × (¬ IsNumberTooBig tokens k) × IsSyntaxFault tokens end k
 IsFaultAt tokens end (fault.TooDeep at) k =
     (at ≡ place_at tokens end k) × (¬ IsNumberTooBig tokens k) × (¬ IsSyntaxFault tokens end k) × IsTooDeep tokens k
-IsFaultAt tokens end (fault.Memory error) k = Unit {0}
 
 -- the fault is the first in the tokens
-abbrev pub IsFirstFault : List Token → Ending → ReadFault → Type 0
+abbrev pub IsFirstFault : List Token → Ending → SourceFault → Type 0
 IsFirstFault tokens end fault = (k : ℕ) × ((j : ℕ) → j < k → IsFaultless tokens end j) × IsFaultAt tokens end fault k
 
 -- the bytes spell this file, and have no fault
@@ -62,16 +63,18 @@ SpellsFile bytes file =
     (tokens : List Token) × (at : Place) × Spells start bytes tokens (ending.End at) × IsFile tokens file ×
     ((k : ℕ) → IsFaultless tokens (ending.End at) k)
 
--- the bytes spell tokens that have this fault as their first; of want of memory this says nothing about the bytes
-abbrev pub HasFault : List ℕ → ReadFault → Type 0
+-- the bytes spell tokens that have this fault as their first
+abbrev pub HasFault : List ℕ → SourceFault → Type 0
 HasFault bytes fault = (tokens : List Token) × (end : Ending) × Spells start bytes tokens end × IsFirstFault tokens end fault
 
--- the answer, unless memory ran out
-abbrev pub IsOrMemory : Result File ReadFault → Result File ReadFault → Type 0
-IsOrMemory (Err (fault.Memory error)) wanted = Unit {0}
-IsOrMemory answer wanted = answer ≡ wanted
+-- the fault that an error tells of the bytes; want of memory tells none
+abbrev pub fault_of : ReadFault → Option SourceFault
+fault_of (error.Syntax at) = Some (fault.Syntax at)
+fault_of (error.TooDeep at) = Some (fault.TooDeep at)
+fault_of (error.NumberTooBig at) = Some (fault.NumberTooBig at)
+fault_of (error.Memory e) = None
 
--- a fault of the bytes, and no want of memory
-abbrev pub IsOfBytes : ReadFault → Type 0
-IsOfBytes (fault.Memory error) = ⊥
-IsOfBytes _ = Unit {0}
+-- the answer is the one that the bytes have, unless memory ran out
+abbrev pub IsOrMemory : Result File ReadFault → Result File SourceFault → Type 0
+IsOrMemory (Ok file) wanted = Ok file ≡ wanted
+IsOrMemory (Err error) wanted = IfSome (fault_of error) (λ fault. Err fault ≡ wanted)

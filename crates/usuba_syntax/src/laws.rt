@@ -1,15 +1,15 @@
 //! Laws about the grammar, each the contract of a function that does nothing.
 
-ghost use Rattle.std.specs.Prelude.{◌≡◌, ℕ, List};
+ghost use Rattle.std.specs.Prelude.{◌≡◌, ◌⊎◌, ℕ, List};
 ghost use Rattle.usuba_syntax.specs.Files.{IsFile};
-ghost use Rattle.usuba_syntax.specs.Sources.{SpellsFile, HasFault, IsOfBytes};
-ghost use Rattle.usuba_syntax.specs.declared.read.ReadFault.{ReadFault};
+ghost use Rattle.usuba_syntax.specs.SourceFaults.{SourceFault};
+ghost use Rattle.usuba_syntax.specs.Sources.{SpellsFile, HasFault};
 ghost use Rattle.usuba_tokens.specs.declared.token.Token.{Token};
 ghost use Rattle.usuba_trees.specs.declared.File.{File};
 
 use crate::table::{FRAME, PRODUCTIONS};
-use ll_reader::steps_are_determined;
-use usuba_tokens::one_spelling;
+use ll_reader::{steps_are_determined, text_or_fault};
+use usuba_tokens::{every_text_spells, one_spelling};
 
 /// Tokens are at most one file.
 pub fn one_file()
@@ -21,9 +21,17 @@ pub fn one_file()
 /// Bytes spell at most one file, have at most one first fault, and never both.
 pub fn one_source()
     ensures file { (bytes : List ℕ) (first second : File) → SpellsFile bytes first → SpellsFile bytes second → first ≡ second }
-    ensures fault { (bytes : List ℕ) (first second : ReadFault) → IsOfBytes first → IsOfBytes second → HasFault bytes first → HasFault bytes second → first ≡ second }
-    ensures apart { (bytes : List ℕ) (file : File) (fault : ReadFault) → IsOfBytes fault → SpellsFile bytes file → ¬ HasFault bytes fault }
+    ensures fault { (bytes : List ℕ) (first second : SourceFault) → HasFault bytes first → HasFault bytes second → first ≡ second }
+    ensures apart { (bytes : List ℕ) (file : File) (fault : SourceFault) → SpellsFile bytes file → ¬ HasFault bytes fault }
 {
     one_spelling();
     one_file();
+}
+
+/// All bytes spell a file or have a fault.
+pub fn file_or_fault()
+    ensures { (bytes : List ℕ) → ((file : File) × SpellsFile bytes file) ⊎ ((fault : SourceFault) × HasFault bytes fault) }
+{
+    every_text_spells();
+    text_or_fault(&PRODUCTIONS, FRAME);
 }

@@ -4,7 +4,7 @@ ghost use Rattle.std.specs.Prelude.{◌≡◌, ◌≤◌, ◌^◌, ◌<◌, ◌+
 ghost use Rattle.usuba_syntax.specs.Sources as sources;
 ghost use Rattle.usuba_syntax.specs.Classes as classes;
 ghost use Rattle.ll_reader.specs.Answer.{IsFault};
-ghost use Rattle.usuba_syntax.specs.declared.read.ReadFault.{ReadFault};
+ghost use Rattle.usuba_syntax.specs.SourceFaults.{SourceFault};
 ghost use Rattle.usuba_syntax.specs.declared.table.TheConstants.{PRODUCTIONS, FRAME};
 ghost use Rattle.usuba_tokens.specs.declared.token.TokenKind.TheVariants as kind;
 ghost use Rattle.usuba_trees.specs.declared.File.{File};
@@ -17,7 +17,7 @@ use ll_reader::{ReadError, read};
 use std::alloc::{AllocError, Global};
 use thiserror::Error;
 use tor_edge::{List, Place};
-use usuba_tokens::{Ending, Token, TokenKind, Tokens, every_text_spells, tokens_of};
+use usuba_tokens::{Ending, Token, TokenKind, Tokens, tokens_of};
 use usuba_trees::File;
 
 /// Why bytes are no file, with the place of the token at fault: the first fault in the text. At one token a number too big comes
@@ -49,12 +49,11 @@ impl From<AllocError> for ReadFault {
 pub fn read_file(alloc: Global, bytes: &[u8]) -> Result<File, ReadFault>
     requires { length bytes.now ≤ 2 ^ 31 }
     ensures file { IfOk result (sources.SpellsFile bytes.now) }
-    ensures fault { IfErr result (sources.HasFault bytes.now) }
+    ensures fault { IfErr result (λ error. IfSome (sources.fault_of error) (sources.HasFault bytes.now)) }
     ensures only_file { (file : File) → sources.SpellsFile bytes.now file → sources.IsOrMemory result (Ok file) }
-    ensures only_fault { (fault : ReadFault) → sources.IsOfBytes fault → sources.HasFault bytes.now fault → sources.IsOrMemory result (Err fault) }
+    ensures only_fault { (fault : SourceFault) → sources.HasFault bytes.now fault → sources.IsOrMemory result (Err fault) }
 {
     one_source();
-    every_text_spells();
     let Tokens { tokens, ending } = tokens_of(alloc, bytes)?;
     let classes = classes_of(alloc, tokens.as_slice(), ending)?;
     match read(alloc, &PRODUCTIONS, FRAME, classes.as_slice()) {
@@ -75,7 +74,7 @@ fn too_big_at(tokens: &[Token], ending: Ending, at: usize) -> ReadFault
 // The first fault of tokens that the reader refuses.
 fn first_fault(error: ReadError, tokens: &[Token], ending: Ending) -> ReadFault
     requires { IsFault PRODUCTIONS FRAME (map classes.class_of tokens.now ++ classes.behind ending) error }
-    ensures { sources.IsFirstFault tokens.now ending result }
+    ensures { IfSome (sources.fault_of result) (sources.IsFirstFault tokens.now ending) }
 {
     match error {
         ReadError::Memory(error) => ReadFault::Memory(error),

@@ -3,7 +3,7 @@ use Rattle.std.specs.Int.{bit_at}
 use Rattle.std.proofs.lemmas.Bool.{iff_false}
 use Rattle.std.proofs.lemmas.Option.{get_or_from_slice_get, slice_get_within}
 use Rattle.ll_reader.specs.declared.grammar.Production.{Production}
-use Rattle.ll_reader.specs.Choice.{GoesOn}
+use Rattle.ll_reader.specs.Private.Choice.{GoesOn}
 use Rattle.ll_reader.proofs.reader.chosen.Goals as goal
 use Rattle.ll_reader.proofs.reader.chosen.Goals.{else-production-rule-via-then-production-rule+else-has, else-production-rule-via-else-production-rule}
 

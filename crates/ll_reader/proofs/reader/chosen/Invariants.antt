@@ -1,5 +1,5 @@
 use Rattle.std.proofs.Common.{ℕ, ◌<◌}
-use Rattle.ll_reader.specs.Choice.{GoesOn}
+use Rattle.ll_reader.specs.Private.Choice.{GoesOn}
 use Rattle.ll_reader.proofs.reader.chosen.Given as goal
 
 -- no production before this one goes on

@@ -1,12 +1,11 @@
 use Rattle.std.proofs.Common.{◌∙◌}
 use Rattle.usuba_syntax.proofs.Reading.{predictive, ends_last, text_ended, all_valued, spells_file, classes_are, same_keeps, none_of, same_told, too_big_told, fault_told, memory_told, only_file_if_file, only_fault_if_file, only_file_if_fault, only_fault_if_fault}
 use Rattle.usuba_syntax.proofs.Begun.{same_text}
-use Rattle.usuba_tokens.specs.Tokens.{start}
 use Rattle.usuba_syntax.proofs.read.read_file.Goals as goal
 
 pub returns-in_err-tokens-clause-fault : goal.returns-in_err-tokens-clause-fault
 returns-in_err-tokens-clause-fault c =
-    memory_told c.args.bytes.now c.from_residual.result c.in_err-tokens.field-0.0 c.from_residual.ensures.1 (c.every_text_spells.ensures start c.args.bytes.now)
+    memory_told c.args.bytes.now c.from_residual.result c.in_err-tokens.field-0.0 c.from_residual.ensures.1
 
 pub read-requires-clause-predictive : goal.read-requires-clause-predictive
 read-requires-clause-predictive c = predictive

@@ -1,8 +1,10 @@
 -- What the reader answers decides how a source is refused.
+use Rattle.std.specs.Prelude.{IfNone}
+use Rattle.usuba_syntax.specs.SourceFaults as bytes_fault
 use Rattle.std.proofs.Common.{◌≡◌, List, ℕ, Some, Result, Ok, Err, refl, sym, ◌∙◌, ap, subst}
 use Rattle.tor_edge.specs.declared.place.Place.{Place}
 use Rattle.usuba_trees.specs.declared.File.{File}
-use Rattle.usuba_syntax.specs.Sources.{SpellsFile, HasFault, IsOrMemory, IsOfBytes}
+use Rattle.usuba_syntax.specs.Sources.{SpellsFile, HasFault, fault_of, IsOrMemory}
 use Rattle.usuba_syntax.specs.declared.read.ReadFault.{ReadFault}
 use Rattle.usuba_syntax.specs.declared.read.ReadFault.TheVariants as read
 use Rattle.flatten.specs.Thin.{IsThin}
@@ -15,10 +17,10 @@ use Rattle.tornado_main.specs.declared.refusal.SourceFault.TheVariants as source
 -- what the reader answers where the bytes spell a file, and where they have a fault
 pub record Answers (bytes : List ℕ) (answer : Result File ReadFault) : Type 0 where
   pub only_file : (file : File) → SpellsFile bytes file → IsOrMemory answer (Ok file)
-  pub only_fault : (fault : ReadFault) → IsOfBytes fault → HasFault bytes fault → IsOrMemory answer (Err fault)
+  pub only_fault : (fault : bytes_fault.SourceFault) → HasFault bytes fault → IsOrMemory answer (Err fault)
 
 -- bytes in which the reader finds a fault are no source
-pub no_source : (bytes : List ℕ) (found : ReadFault) → IsOfBytes found → Answers bytes (Err found) → (core : Circuit) → ¬ IsSource core bytes
+pub no_source : (bytes : List ℕ) (found : ReadFault) → IfNone (fault_of found) ⊥ → Answers bytes (Err found) → (core : Circuit) → ¬ IsSource core bytes
 no_source bytes (read.Syntax at) of_bytes a core = λ h. let e = a.only_file h.file h.spelled in cc
 no_source bytes (read.TooDeep at) of_bytes a core = λ h. let e = a.only_file h.file h.spelled in cc
 no_source bytes (read.NumberTooBig at) of_bytes a core = λ h. let e = a.only_file h.file h.spelled in cc
@@ -26,21 +28,21 @@ no_source bytes (read.Memory error) of_bytes a core = λ h. of_bytes
 
 -- and have no other fault
 pub same_syntax : (bytes : List ℕ) (at : Place) → Answers bytes (Err (read.Syntax at)) → (f : SourceFault) → IsFaulty f bytes → source.Syntax at ≡ f
-same_syntax bytes at a (source.Syntax b) h = let e = a.only_fault (read.Syntax b) tt h in cc
-same_syntax bytes at a (source.TooDeep b) h = let e = a.only_fault (read.TooDeep b) tt h in absurd (cc)
-same_syntax bytes at a (source.NumberTooBig b) h = let e = a.only_fault (read.NumberTooBig b) tt h in absurd (cc)
+same_syntax bytes at a (source.Syntax b) h = let e = a.only_fault (bytes_fault.Syntax b) h in cc
+same_syntax bytes at a (source.TooDeep b) h = let e = a.only_fault (bytes_fault.TooDeep b) h in absurd (cc)
+same_syntax bytes at a (source.NumberTooBig b) h = let e = a.only_fault (bytes_fault.NumberTooBig b) h in absurd (cc)
 same_syntax bytes at a source.NotBuilt h = let e = a.only_file h.0 h.1 in absurd (cc)
 
 pub same_depth : (bytes : List ℕ) (at : Place) → Answers bytes (Err (read.TooDeep at)) → (f : SourceFault) → IsFaulty f bytes → source.TooDeep at ≡ f
-same_depth bytes at a (source.Syntax b) h = let e = a.only_fault (read.Syntax b) tt h in absurd (cc)
-same_depth bytes at a (source.TooDeep b) h = let e = a.only_fault (read.TooDeep b) tt h in cc
-same_depth bytes at a (source.NumberTooBig b) h = let e = a.only_fault (read.NumberTooBig b) tt h in absurd (cc)
+same_depth bytes at a (source.Syntax b) h = let e = a.only_fault (bytes_fault.Syntax b) h in absurd (cc)
+same_depth bytes at a (source.TooDeep b) h = let e = a.only_fault (bytes_fault.TooDeep b) h in cc
+same_depth bytes at a (source.NumberTooBig b) h = let e = a.only_fault (bytes_fault.NumberTooBig b) h in absurd (cc)
 same_depth bytes at a source.NotBuilt h = let e = a.only_file h.0 h.1 in absurd (cc)
 
 pub same_number : (bytes : List ℕ) (at : Place) → Answers bytes (Err (read.NumberTooBig at)) → (f : SourceFault) → IsFaulty f bytes → source.NumberTooBig at ≡ f
-same_number bytes at a (source.Syntax b) h = let e = a.only_fault (read.Syntax b) tt h in absurd (cc)
-same_number bytes at a (source.TooDeep b) h = let e = a.only_fault (read.TooDeep b) tt h in absurd (cc)
-same_number bytes at a (source.NumberTooBig b) h = let e = a.only_fault (read.NumberTooBig b) tt h in cc
+same_number bytes at a (source.Syntax b) h = let e = a.only_fault (bytes_fault.Syntax b) h in absurd (cc)
+same_number bytes at a (source.TooDeep b) h = let e = a.only_fault (bytes_fault.TooDeep b) h in absurd (cc)
+same_number bytes at a (source.NumberTooBig b) h = let e = a.only_fault (bytes_fault.NumberTooBig b) h in cc
 same_number bytes at a source.NotBuilt h = let e = a.only_file h.0 h.1 in absurd (cc)
 
 -- what the reader answers at an answer that is known
@@ -65,9 +67,9 @@ is_thin bytes file core a h = subst IsThin (sym (same_file bytes file core a h))
 
 -- a file that the reader answers is refused only because it is not thin
 pub not_thin : (bytes : List ℕ) (file : File) → Answers bytes (Ok file) → (f : SourceFault) → IsFaulty f bytes → (source.NotBuilt ≡ f) × ¬ IsThin file
-not_thin bytes file a (source.Syntax b) h = let e = a.only_fault (read.Syntax b) tt h in absurd (cc)
-not_thin bytes file a (source.TooDeep b) h = let e = a.only_fault (read.TooDeep b) tt h in absurd (cc)
-not_thin bytes file a (source.NumberTooBig b) h = let e = a.only_fault (read.NumberTooBig b) tt h in absurd (cc)
+not_thin bytes file a (source.Syntax b) h = let e = a.only_fault (bytes_fault.Syntax b) h in absurd (cc)
+not_thin bytes file a (source.TooDeep b) h = let e = a.only_fault (bytes_fault.TooDeep b) h in absurd (cc)
+not_thin bytes file a (source.NumberTooBig b) h = let e = a.only_fault (bytes_fault.NumberTooBig b) h in absurd (cc)
 not_thin bytes file a source.NotBuilt h =
     let e = a.only_file h.0 h.1 in
     let same : file ≡ h.0 = cc in

@@ -2,7 +2,7 @@
 use Rattle.std.specs.Prelude.{◌≡◌, ℕ, List, Some}
 use Rattle.usuba_trees.specs.declared.File.{File}
 use Rattle.usuba_syntax.specs.Sources.{SpellsFile, HasFault}
-use Rattle.usuba_syntax.specs.declared.read.ReadFault.TheVariants as read
+use Rattle.usuba_syntax.specs.SourceFaults as read
 use Rattle.usuba0.specs.Circuit.{Circuit}
 use Rattle.flatten.specs.SourceCore.{core_of_source}
 use Rattle.flatten.specs.Thin.{IsThin}

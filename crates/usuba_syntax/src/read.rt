@@ -5,6 +5,7 @@ ghost use Rattle.usuba_syntax.specs.Sources as sources;
 ghost use Rattle.usuba_syntax.specs.Classes as classes;
 ghost use Rattle.ll_reader.specs.Answer.{IsFault};
 ghost use Rattle.usuba_syntax.specs.SourceFaults.{SourceFault};
+ghost use Rattle.usuba_syntax.specs.declared.read.ReadFault.{ReadFault};
 ghost use Rattle.usuba_syntax.specs.declared.table.TheConstants.{PRODUCTIONS, FRAME};
 ghost use Rattle.usuba_tokens.specs.declared.token.TokenKind.TheVariants as kind;
 ghost use Rattle.usuba_trees.specs.declared.File.{File};

@@ -7,14 +7,11 @@ pub returns-in_err-tokens-clause-fault : goal.returns-in_err-tokens-clause-fault
 returns-in_err-tokens-clause-fault c =
     memory_told c.args.bytes.now c.from_residual.result c.in_err-tokens.field-0.0 c.from_residual.ensures.1
 
-pub read-requires-clause-predictive : goal.read-requires-clause-predictive
-read-requires-clause-predictive c = predictive
-
-pub read-requires-clause-ends : goal.read-requires-clause-ends
-read-requires-clause-ends c =
+pub read-requires : goal.read-requires
+read-requires c =
     let same = classes_are _ _ c.in_ok-tokens.field-0.ending _ _ c.as_slice.ensures c.in_ok-classes.ensures c.as_slice-2.ensures.value in
     let r = ends_last c.in_ok-tokens.field-0.tokens c.in_ok-tokens.field-0.ending in
-    (r.0, same ∙ r.1)
+    (predictive, (r.0, same ∙ r.1))
 
 pub tree_of-requires-clause-text : goal.tree_of-requires-clause-text
 tree_of-requires-clause-text c =

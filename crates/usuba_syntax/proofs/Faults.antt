@@ -20,6 +20,7 @@ use Rattle.usuba_syntax.specs.declared.read.ReadFault.{ReadFault}
 use Rattle.usuba_syntax.specs.declared.table.TheConstants.{PRODUCTIONS, FRAME}
 use Rattle.usuba_syntax.proofs.Begun.{begins_file, begins_text, begins_shorter, file_text, broken_begins_none, same_text, same_begun}
 use Rattle.usuba_syntax.proofs.NestedFaults.{AreEnds, shallow_text, shallow_before_syntax, shallow_before_deep, too_deep, deep_inside}
+use Rattle.usuba_syntax.proofs.OpenCounts.{listed_deep, is_too_deep}
 use Rattle.usuba_syntax.proofs.Runs.{classes}
 use Rattle.usuba_tokens.specs.declared.token.Ending.{Ending}
 use Rattle.usuba_tokens.specs.declared.token.Ending.TheVariants as ending
@@ -98,7 +99,7 @@ pub text_sound : (tokens : List Token) (at : Place) (steps : List Step) (file : 
     KeepsDepth PRODUCTIONS FRAME (length (classes tokens ++ class.END ∷ [])) steps → IsFile tokens file → (k : ℕ) → IsSound tokens (ending.End at) k
 text_sound tokens at steps f d keeps x k = record {
   syntax = λ wrong. elim (fault_cases tokens (ending.End at) wrong) [ inl (h, none) ↦ none begins | inr (h, none) ↦ none f x ];
-  deep = shallow_text tokens (class.END ∷ []) steps (refl, tt) d keeps k;
+  deep = λ deep. shallow_text tokens (class.END ∷ []) steps (refl, tt) d keeps k (listed_deep tokens k deep);
 } where
   begins : BeginsFile (take (k + 1) tokens)
   begins =
@@ -152,7 +153,7 @@ syntax_at tokens end at s =
       wrong = syntax_here tokens end at le s.here;
       sound = λ j h. record {
         syntax = begun_faultless tokens end at j begins le h;
-        deep = shallow_before_syntax tokens (behind end) at (behind_ends end) s j h;
+        deep = λ deep. shallow_before_syntax tokens (behind end) at (behind_ends end) s j h (listed_deep tokens j deep);
       };
     }
 
@@ -170,10 +171,10 @@ deep_at tokens end at s =
     let begins = begins_file (take (at + 1) tokens) (same_begun (take_classes tokens (behind end) (at + 1) le) s.begins) in
     record {
       right = begun_faultless tokens end (at + 1) at begins le (omega arith);
-      deep = deep;
+      deep = is_too_deep tokens at inside deep;
       sound = λ j h. record {
         syntax = begun_faultless tokens end (at + 1) j begins le (omega arith);
-        deep = shallow_before_deep tokens (behind end) at (behind_ends end) s j h;
+        deep = λ low. shallow_before_deep tokens (behind end) at (behind_ends end) s j h (listed_deep tokens j low);
       };
     }
 

@@ -10,7 +10,9 @@ mod Nested
 mod NestedDepths
 mod NestedFaults
 mod NestedTable
+mod Nests
 mod OneSource
+mod OpenCounts
 mod Places
 mod Reading
 mod Runs

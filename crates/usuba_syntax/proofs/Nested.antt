@@ -4,7 +4,7 @@ use Rattle.std.specs.Prelude.{◌==◌, if◌then◌else◌}
 use Rattle.std.specs.List.{list_any}
 use Rattle.std.proofs.lemmas.Bool.{and_parts}
 use Rattle.usuba_syntax.specs.Classes.{class_of, class_of_kind}
-use Rattle.usuba_syntax.specs.Nesting.{Opening, Bracket, Complement, behind_operand, outside, Nest, at_token, behind_token, behind_outer_token, counts}
+use Rattle.usuba_syntax.proofs.Nests.{Opening, Bracket, Complement, behind_operand, outside, Nest, at_token, behind_token, behind_outer_token, counts}
 use Rattle.usuba_syntax.specs.declared.class.TheConstants as class
 use Rattle.usuba_tokens.specs.declared.token.Keyword.TheVariants as keyword
 use Rattle.usuba_tokens.specs.declared.token.Sign.TheVariants as sign

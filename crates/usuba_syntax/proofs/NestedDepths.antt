@@ -10,7 +10,7 @@ use Rattle.ll_reader.specs.declared.grammar.Production.{Production}
 use Rattle.ll_reader.specs.declared.grammar.Step.{Step}
 use Rattle.ll_reader.specs.Derivation.{items, Derives, done, token, rule, IsText}
 use Rattle.ll_reader.specs.Depth.{items_at, depths, token_depths}
-use Rattle.usuba_syntax.specs.Nesting.{Opening, Bracket, Complement, behind_operand, Nest}
+use Rattle.usuba_syntax.proofs.Nests.{Opening, Bracket, Complement, behind_operand, Nest}
 use Rattle.usuba_syntax.specs.declared.class.TheConstants as class
 use Rattle.usuba_syntax.specs.declared.table.TheConstants.{PRODUCTIONS, FRAME}
 use Rattle.usuba_syntax.specs.declared.table.rule.TheConstants as rules

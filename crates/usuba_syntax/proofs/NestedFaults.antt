@@ -8,7 +8,7 @@ use Rattle.ll_reader.specs.Derivation.{IsText}
 use Rattle.ll_reader.specs.Depth.{token_depths, KeepsDepth, PassesDepth}
 use Rattle.ll_reader.specs.Answer.{IsSyntaxFault, IsTooDeepFault}
 use Rattle.usuba_syntax.specs.Classes.{class_of}
-use Rattle.usuba_syntax.specs.Nesting.{Nest, open_counts}
+use Rattle.usuba_syntax.proofs.Nests.{Nest, open_counts}
 use Rattle.usuba_syntax.specs.declared.class.TheConstants as class
 use Rattle.usuba_syntax.specs.declared.table.TheConstants.{PRODUCTIONS, FRAME}
 use Rattle.usuba_tokens.specs.declared.token.Token.{Token}

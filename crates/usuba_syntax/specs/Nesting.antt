@@ -1,5 +1,5 @@
--- How many brackets and `~` are opened at each token. What is opened is counted in the items of a node, from `let` to `tel`.
-use Rattle.std.specs.Prelude.{ℕ, List, [], ◌∷◌, length, Option, Some, None}
+-- How many brackets and `~` are open at a token: opened in the items of a node, from `let` to `tel`, and not yet ended.
+use Rattle.std.specs.Prelude.{ℕ, zero, suc, ◌+◌, ◌&&◌, Bool, true, false, List, [], ◌∷◌, Option, Some, None, if◌then◌else◌}
 use Rattle.usuba_tokens.specs.declared.token.Keyword.TheVariants as keyword
 use Rattle.usuba_tokens.specs.declared.token.Sign.{Sign}
 use Rattle.usuba_tokens.specs.declared.token.Sign.TheVariants as sign
@@ -7,66 +7,86 @@ use Rattle.usuba_tokens.specs.declared.token.Token.{Token}
 use Rattle.usuba_tokens.specs.declared.token.TokenKind.{TokenKind}
 use Rattle.usuba_tokens.specs.declared.token.TokenKind.TheVariants as kind
 
--- what can be opened
-pub data Opening : Type 0 where
-  Bracket : Opening
-  Complement : Opening
+-- how many of `inner` open brackets are open behind one that closes; none where it closes what lies around them
+abbrev pub without_one : ℕ → Option ℕ
+without_one zero = None
+without_one (suc n) = Some n
 
--- what is opened behind the operand of each `~` on top
-abbrev pub behind_operand : List Opening → List Opening
-behind_operand [] = []
-behind_operand (Bracket ∷ opened) = Bracket ∷ opened
-behind_operand (Complement ∷ opened) = behind_operand opened
+-- how many brackets are open inside a bracket, or inside an operand, behind a sign, from how many are before it
+abbrev pub inner_behind_sign : ℕ → Sign → Option ℕ
+inner_behind_sign inner sign.OpenRound = Some (suc inner)
+inner_behind_sign inner sign.OpenSquare = Some (suc inner)
+inner_behind_sign inner sign.OpenCurly = Some (suc inner)
+inner_behind_sign inner sign.CloseRound = without_one inner
+inner_behind_sign inner sign.CloseSquare = without_one inner
+inner_behind_sign inner sign.CloseCurly = without_one inner
+inner_behind_sign inner _ = Some inner
 
--- what is opened without the innermost
-abbrev pub outside : List Opening → List Opening
-outside [] = []
-outside (o ∷ opened) = opened
+-- and behind any token; `tel` ends the items, and with them what is open
+abbrev pub inner_behind : ℕ → TokenKind → Option ℕ
+inner_behind inner (kind.Sign s) = inner_behind_sign inner s
+inner_behind inner (kind.Keyword keyword.Tel) = None
+inner_behind inner _ = Some inner
 
--- What is opened at a sign, the sign included if it opens or closes. A `~` is opened to the end of its operand, and only a
--- bracket that opens goes on with an operand.
-abbrev pub at_sign : List Opening → Sign → List Opening
-at_sign opened sign.OpenRound = Bracket ∷ opened
-at_sign opened sign.OpenSquare = Bracket ∷ opened
-at_sign opened sign.OpenCurly = Bracket ∷ opened
-at_sign opened sign.Tilde = Complement ∷ opened
-at_sign opened _ = behind_operand opened
+-- the signs that an operand goes on with: `~`, and the brackets that open
+abbrev pub sign_goes_on : Sign → Bool
+sign_goes_on sign.OpenRound = true
+sign_goes_on sign.OpenSquare = true
+sign_goes_on sign.OpenCurly = true
+sign_goes_on sign.Tilde = true
+sign_goes_on _ = false
 
--- what is opened behind a sign, from what is opened at it
-abbrev pub behind_sign : List Opening → Sign → List Opening
-behind_sign opened sign.CloseRound = outside opened
-behind_sign opened sign.CloseSquare = outside opened
-behind_sign opened sign.CloseCurly = outside opened
-behind_sign opened _ = opened
+-- the tokens that it goes on with: these, names, numbers and `refresh`
+abbrev pub goes_on : TokenKind → Bool
+goes_on (kind.Sign s) = sign_goes_on s
+goes_on (kind.Keyword keyword.Refresh) = true
+goes_on (kind.Keyword k) = false
+goes_on _ = true
 
--- what is open in the items of a node, and none outside of items
-abbrev pub Nest : Type 0
-Nest = Option (List Opening)
+-- a token belongs to an operand in which `inner` brackets are open
+abbrev pub belongs : ℕ → TokenKind → Bool
+belongs zero k = goes_on k
+belongs (suc n) k = true
 
--- what is opened at a token: names, numbers and `refresh` belong to an operand
-abbrev pub at_token : List Opening → TokenKind → List Opening
-at_token opened (kind.Sign s) = at_sign opened s
-at_token opened (kind.Keyword keyword.Refresh) = opened
-at_token opened (kind.Keyword k) = behind_operand opened
-at_token opened _ = opened
+abbrev pub is_last : List Token → Bool
+is_last [] = true
+is_last (t ∷ rest) = false
 
--- what is opened behind a token, from what is opened at it
-abbrev pub behind_token : List Opening → TokenKind → Nest
-behind_token opened (kind.Sign s) = Some (behind_sign opened s)
-behind_token opened (kind.Keyword keyword.Tel) = None
-behind_token opened _ = Some opened
+-- A bracket, in which `inner` more are open, is open at the last of the tokens behind it: none before the last closes it.
+abbrev pub bracket_open : ℕ → List Token → Bool
+bracket_open inner [] = true
+bracket_open inner (t ∷ rest) = elim (inner_behind inner t.kind) [ None ↦ is_last rest | Some n ↦ bracket_open n rest ]
 
--- whether items begin behind a token outside of items
-abbrev pub behind_outer_token : TokenKind → Nest
-behind_outer_token (kind.Keyword keyword.Let) = Some []
-behind_outer_token _ = None
+-- A `~`, in whose operand `inner` brackets are open, is open at the last of the tokens behind it: all belong to its operand.
+abbrev pub operand_open : ℕ → List Token → Bool
+operand_open inner [] = true
+operand_open inner (t ∷ rest) =
+    belongs inner t.kind && (elim (inner_behind inner t.kind) [ None ↦ is_last rest | Some n ↦ operand_open n rest ])
 
--- how many are opened at each token
-abbrev pub counts : Nest → List Token → List ℕ
-counts nest [] = []
-counts None (t ∷ tokens) = 0 ∷ counts (behind_outer_token t.kind) tokens
-counts (Some opened) (t ∷ tokens) = length (at_token opened t.kind) ∷ counts (behind_token (at_token opened t.kind) t.kind) tokens
+-- what a sign opens is open at the last of the tokens behind it
+abbrev pub sign_open : Sign → List Token → Bool
+sign_open sign.OpenRound rest = bracket_open 0 rest
+sign_open sign.OpenSquare rest = bracket_open 0 rest
+sign_open sign.OpenCurly rest = bracket_open 0 rest
+sign_open sign.Tilde rest = operand_open 0 rest
+sign_open _ rest = false
 
--- how many brackets and `~` are opened at each token of a file
-abbrev pub open_counts : List Token → List ℕ
-open_counts tokens = counts None tokens
+-- what a token opens is open at the last of the tokens behind it; nothing but a sign opens
+abbrev pub is_open : TokenKind → List Token → Bool
+is_open (kind.Sign s) rest = sign_open s rest
+is_open _ rest = false
+
+-- whether what stands behind a token is in the items of a node
+abbrev pub in_items_behind : Bool → TokenKind → Bool
+in_items_behind inside (kind.Keyword keyword.Let) = true
+in_items_behind inside (kind.Keyword keyword.Tel) = false
+in_items_behind inside _ = inside
+
+-- how many of those that these tokens open in items are open at the last of them
+abbrev pub open_among : Bool → List Token → ℕ
+open_among inside [] = 0
+open_among inside (t ∷ rest) = (if inside && is_open t.kind rest then 1 else 0) + open_among (in_items_behind inside t.kind) rest
+
+-- how many brackets and `~` are open at the last of the tokens with which a file begins
+abbrev pub open_count : List Token → ℕ
+open_count tokens = open_among false tokens

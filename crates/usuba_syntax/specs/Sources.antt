@@ -1,8 +1,8 @@
 -- Which file the bytes of a source spell, and its faults.
-use Rattle.std.specs.Prelude.{◌≡◌, ◌<◌, ℕ, zero, suc, ◌+◌, List, [], ◌∷◌, length, take, Option, Some, None, IfSome, Result, Ok, Err, slice_get, slice_index}
+use Rattle.std.specs.Prelude.{◌≡◌, ◌<◌, ℕ, zero, suc, ◌+◌, List, [], ◌∷◌, length, take, Option, Some, None, IfSome, Result, Ok, Err, slice_get}
 use Rattle.tor_edge.specs.declared.place.Place.{Place}
 use Rattle.usuba_syntax.specs.Files.{IsFile, BeginsFile}
-use Rattle.usuba_syntax.specs.Nesting.{open_counts}
+use Rattle.usuba_syntax.specs.Nesting.{open_count}
 use Rattle.usuba_syntax.specs.SourceFaults.{SourceFault}
 use Rattle.usuba_syntax.specs.SourceFaults as fault
 use Rattle.usuba_syntax.specs.declared.read.ReadFault.{ReadFault}
@@ -37,7 +37,7 @@ IsNumberTooBig tokens k = (t : Token) × (slice_get tokens k ≡ Some t) × (t.k
 
 -- more than 128 brackets and `~` of its item are open at the token at k
 abbrev pub IsTooDeep : List Token → ℕ → Type 0
-IsTooDeep tokens k = 128 < slice_index (open_counts tokens) k
+IsTooDeep tokens k = (k < length tokens) × (128 < open_count (take (k + 1) tokens))
 
 -- no fault stands at the token at k
 pub record IsFaultless (tokens : List Token) (end : Ending) (k : ℕ) : Type 0 where

@@ -1,5 +1,5 @@
 -- Classes that end with the end class are a text that keeps the depth, or have a fault.
-use Rattle.std.proofs.Common.{◌≡◌, ◌≢◌, ℕ, zero, suc, ◌+◌, ◌<◌, ◌≤◌, List, [], ◌∷◌, ◌++◌, length, take, get_or, slice_get, Some, refl, sym, ap, ◌∙◌, subst, ◌⊎◌, inl, inr, arith}
+use Rattle.std.proofs.Common.{◌≡◌, ◌≢◌, ℕ, zero, suc, ◌+◌, ◌<◌, ◌≤◌, List, [], ◌∷◌, ◌++◌, length, take, get_or, Some, refl, ap, ◌∙◌, ◌⊎◌, inl, inr, arith}
 use Rattle.std.specs.Int.{bit_at}
 use Rattle.std.proofs.lemmas.Bool.{cases_order, cases_lt}
 use Rattle.std.proofs.lemmas.Option.{same_Some}
@@ -9,7 +9,7 @@ use Rattle.ll_reader.specs.declared.grammar.Item.TheVariants.{Token, Rule}
 use Rattle.ll_reader.specs.declared.grammar.Production.{Production}
 use Rattle.ll_reader.specs.declared.grammar.Step.{Step}
 use Rattle.ll_reader.specs.declared.grammar.Step.TheVariants.{Take, Choose}
-use Rattle.ll_reader.specs.Answer.{IsSyntaxFault, IsTooDeepFault, HasAnswer}
+use Rattle.ll_reader.specs.Answer.{HasAnswer}
 use Rattle.ll_reader.specs.Depth.{items_at}
 use Rattle.ll_reader.specs.Derivation.{items}
 use Rattle.ll_reader.specs.Predictive.{Facts, weight_of, Meet}

@@ -1,6 +1,5 @@
 -- What the class of the next token tells of a derivation.
-use Rattle.std.proofs.Common.{◌≡◌, ℕ, ◌^◌, ◌<◌, ◌&&◌, zero, suc, true, not, eqb, ltb, List, [], ◌∷◌, ◌++◌, length, Some, sym, refl, ap, ◌∙◌, subst, slice_get}
-use Rattle.std.proofs.lemmas.Bool.{and_parts, ltb-true, not-true, eq-eqb, both_ways}
+use Rattle.std.proofs.Common.{◌≡◌, ℕ, ◌^◌, ◌<◌, zero, suc, List, [], ◌∷◌, ◌++◌, length, Some, sym, refl, ap, ◌∙◌, subst, slice_get}
 use Rattle.std.proofs.lemmas.Option.{same_Some}
 use Rattle.ll_reader.specs.declared.grammar.Item.{Item}
 use Rattle.ll_reader.specs.declared.grammar.Item.TheVariants.{Token, Rule}

@@ -1,5 +1,5 @@
 -- The test of a table, and the search for facts with which it passes: both are worked out when a caller is checked.
-use Rattle.std.specs.Prelude.{ℕ, ◌+◌, ◌^◌, max, min, ◌==◌, ◌&&◌, ◌||◌, not, nat_lt, nat_le, bit_and, bit_or, Bool, true, false, List, [], ◌∷◌, length, replicate, slice_set, if◌then◌else◌}
+use Rattle.std.specs.Prelude.{ℕ, ◌+◌, ◌^◌, max, min, ◌==◌, ◌&&◌, ◌||◌, not, nat_lt, nat_le, bit_and, bit_or, Bool, true, false, List, [], ◌∷◌, length, replicate, slice_set}
 use Rattle.std.specs.List.{list_all, list_any}
 use Rattle.std.proofs.Common.{zero, suc}
 use Rattle.ll_reader.specs.declared.grammar.Frame.{Frame}

@@ -1,5 +1,5 @@
 -- All bytes spell a file or have a fault.
-use Rattle.std.proofs.Common.{◌≡◌, ◌<◌, ◌≤◌, ℕ, zero, suc, ◌+◌, List, [], ◌∷◌, ◌++◌, length, slice_get, Option, Some, None, ◌⊎◌, inl, inr, sym, ap, ◌∙◌, arith, refl}
+use Rattle.std.proofs.Common.{◌≡◌, ◌<◌, ◌≤◌, ℕ, zero, suc, List, [], ◌∷◌, ◌++◌, Some, None, ◌⊎◌, inl, inr, ap, ◌∙◌, arith, refl}
 use Rattle.std.proofs.lemmas.Bool.{cases_lt}
 use Rattle.std.proofs.lemmas.Option.{same_Some, none-some}
 use Rattle.ll_reader.specs.Answer.{HasAnswer}
@@ -8,7 +8,7 @@ use Rattle.usuba_syntax.specs.SourceFaults.{SourceFault}
 use Rattle.usuba_syntax.specs.SourceFaults as fault
 use Rattle.usuba_syntax.specs.Sources.{place_at, IsNumberTooBig, IsFirstFault, SpellsFile, HasFault}
 use Rattle.usuba_syntax.specs.declared.table.TheConstants.{PRODUCTIONS, FRAME}
-use Rattle.usuba_syntax.proofs.Faults.{IsSound, SyntaxAt, DeepAt, syntax_at, deep_at, first_big, first_syntax, first_deep}
+use Rattle.usuba_syntax.proofs.Faults.{IsSound, syntax_at, deep_at, first_big, first_syntax, first_deep}
 use Rattle.usuba_syntax.proofs.Reading.{text_ended, spells_file, taken_too_big}
 use Rattle.usuba_syntax.proofs.Runs.{classes}
 use Rattle.usuba_syntax.proofs.Texts.{file_of_text}

@@ -105,10 +105,11 @@ impl Parts {
         requires { IsTrue (top.is_mark self.old) }
         ensures { self.old ≡ Part.Mark result ∷ self.new }
     {
-        match self.parts.pop() {
-            Some(Part::Mark(value)) => value,
-            _ => unreachable!(),
-        }
+        let part = self.pop();
+        // A part let go of right here costs minutes to prove.
+        let place = Parts::place_of(&part);
+        drop(part);
+        place
     }
 
     pub fn pop_word(&mut self) -> Word
@@ -135,10 +136,10 @@ impl Parts {
         requires { IsTrue (top.is_number self.old) }
         ensures { self.old ≡ Part.Number result.0 result.1 ∷ self.new }
     {
-        match self.parts.pop() {
-            Some(Part::Number(first, second)) => (first, second),
-            _ => unreachable!(),
-        }
+        let part = self.pop();
+        let number = Parts::number_of(&part);
+        drop(part);
+        number
     }
 
     pub fn pop_index(&mut self) -> Index
@@ -377,6 +378,26 @@ impl Parts {
     {
         match self.parts.pop() {
             Some(Part::File(value)) => value,
+            _ => unreachable!(),
+        }
+    }
+
+    fn place_of(part: &Part) -> Place
+        requires { IsTrue (top.is_mark (part.now ∷ [])) }
+        ensures { part.now ≡ Part.Mark result }
+    {
+        match part {
+            Part::Mark(place) => *place,
+            _ => unreachable!(),
+        }
+    }
+
+    fn number_of(part: &Part) -> (Place, u64)
+        requires { IsTrue (top.is_number (part.now ∷ [])) }
+        ensures { part.now ≡ Part.Number result.0 result.1 }
+    {
+        match part {
+            Part::Number(place, value) => (*place, *value),
             _ => unreachable!(),
         }
     }

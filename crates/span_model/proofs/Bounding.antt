@@ -1,5 +1,5 @@
 -- Closures that stay in a bound.
-use Rattle.std.proofs.Common.{◌≡◌, ◌≢◌, ◌⊎◌, inl, inr, List, [], ◌∷◌, ◌++◌}
+use Rattle.std.proofs.Common.{◌≡◌, ◌≢◌, inl, inr, List, [], ◌∷◌, ◌++◌}
 use Rattle.span_model.specs.Columns.{Columns, empty}
 use Rattle.span_model.specs.Span.{InSpan, Spans}
 use Rattle.span_model.specs.Attack.{Product, IsLeak}

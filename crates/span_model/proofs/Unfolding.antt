@@ -1,9 +1,8 @@
 -- A closure gives an attack: each use of a step unfolds to a probe, whose operand side is on a share of its own.
-use Rattle.std.proofs.Common.{◌≡◌, ◌≢◌, ◌<◌, ◌≤◌, ◌+◌, ◌⊎◌, inl, inr, ℕ, zero, suc, Bool, true, false, cond, List, [], ◌∷◌, ◌++◌, length, All, eqb, eq-eqb, refl, sym, subst, arith, true≢false, length-append}
-use native.Mathlib.Nat.{le_of_suc-le-suc}
+use Rattle.std.proofs.Common.{◌≡◌, ◌≢◌, ◌<◌, ◌≤◌, ◌+◌, ◌⊎◌, inl, inr, ℕ, zero, suc, Bool, true, false, cond, List, [], ◌∷◌, ◌++◌, length, eqb, eq-eqb, refl, sym, subst, arith, true≢false, length-append}
 use Rattle.span_model.specs.Columns.{Columns, empty}
 use Rattle.span_model.specs.Span.{InSpan, Spans}
-use Rattle.span_model.specs.Attack.{Product, Probe, IsProbe, product_at, shown, seen, IsLeak}
+use Rattle.span_model.specs.Attack.{Product, Probe, product_at, shown, seen, IsLeak}
 use Rattle.span_model.specs.Closure.{Step, Side, on_left, on_right, operand, co_operand, co_operands, IsChain, IsClosed}
 use Rattle.span_model.proofs.Members.{spans_none, spans_both, in_behind, in_front}
 use Rattle.span_model.proofs.Probing.{AllBelow, below_more, below-append, below_within, seen_first, seen_second}

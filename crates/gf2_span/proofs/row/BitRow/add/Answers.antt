@@ -1,4 +1,4 @@
-use Rattle.std.proofs.Common.{ℕ, List, ◌≡◌, sym, ◌∙◌, subst, length, arith}
+use Rattle.std.proofs.Common.{◌≡◌, sym, ◌∙◌, length, arith}
 use Rattle.gf2_span.specs.Words.{bits_of, IsPadded}
 use Rattle.gf2_span.proofs.Bits.{length-bits, as_long, other_padded, sum_padded, set_of-sum}
 use Rattle.gf2_span.proofs.row.BitRow.add.Goals as goal

@@ -1,4 +1,4 @@
-use Rattle.std.proofs.Common.{ℕ, List, false, ◌≡◌, ◌+◌, ◌/◌, ◌≤◌, sym, ◌∙◌, subst, ◌<◌, length, arith}
+use Rattle.std.proofs.Common.{ℕ, List, false, ◌≡◌, ◌+◌, ◌/◌, ◌≤◌, sym, ◌∙◌, ◌<◌, length, arith}
 use Rattle.span_model.specs.Columns.{set_of}
 use Rattle.gf2_span.specs.Words.{bits_of, IsPadded}
 use Rattle.gf2_span.proofs.Bits.{length-bits, as_long, other_padded, sum_padded, set_of-sum, clear_above}

@@ -1,4 +1,4 @@
-use Rattle.std.proofs.Common.{ℕ, List, ◌≡◌, sym, ◌∙◌, length, arith}
+use Rattle.std.proofs.Common.{◌≡◌, length, arith}
 use Rattle.gf2_span.specs.Words.{bits_of}
 use Rattle.gf2_span.proofs.Bits.{as_long}
 use Rattle.gf2_span.proofs.row.BitRow.overwrite.Goals as goal

@@ -9,13 +9,13 @@ use Rattle.std.proofs.lemmas.Map.Keys.{any_passes_from_place}
 use Rattle.std.proofs.lemmas.Option.{slice_get-get_or}
 use mathlib.Core.Path.{fun_ext}
 use Rattle.span_model.specs.Columns.{Columns, empty, set_of, sets_of, ◌△◌}
-use Rattle.span_model.specs.Attack.{Product, Probe, IsAttack, IsLeak, HasAttack}
-use Rattle.span_model.specs.Renaming.{named_in, renamed, renamed_product}
-use Rattle.span_model.proofs.Carrying.{renamed_attacks}
+use Rattle.span_model.specs.Attack.{Product, Probe, IsAttack}
+use Rattle.span_model.specs.Renaming.{named_in, renamed}
+use Rattle.span_model.specs.RefreshLaws.{RenamingKeepsAttacks}
 use Rattle.usuba0.specs.declared.circuit.Gate.{Gate}
 use Rattle.usuba0.specs.declared.circuit.Gate.TheVariants as gate
 use Rattle.usuba0.specs.declared.circuit.Reg.{Reg}
-use Rattle.usuba0.specs.Circuit.{Circuit, IsCore, products_of, refreshes_of}
+use Rattle.usuba0.specs.Circuit.{Circuit, products_of, refreshes_of}
 use Rattle.linear_view.specs.declared.column.Column.{Column}
 use Rattle.linear_view.specs.declared.column.ColumnKind.{ColumnKind}
 use Rattle.linear_view.specs.declared.column.ColumnKind.TheVariants as column
@@ -23,6 +23,7 @@ use Rattle.linear_view.specs.Names.{same_column, own_columns, input_columns, gat
 use Rattle.linear_view.specs.Rows.{Rows, RegisterRows, rows_at, row_at, rows_over, operands_over, only, own_row, gate_row, gate_rows, input_rows, rows_after, core_rows, gate_product, core_products, core_view}
 use Rattle.linear_view.specs.View as view
 use Rattle.linear_view.specs.AttackLaw.{HoldsCoreColumns, numbered, set_in, named, AttacksAreTheViews}
+use Rattle.linear_view.proofs.ListLemmas.{each_append, each_range, cons_same}
 use Rattle.linear_view.proofs.NameLemmas.{same_column-itself, same_column-same}
 use Rattle.linear_view.proofs.ColumnLemmas.{IsAbsent}
 use Rattle.linear_view.proofs.ApartLemmas.{IsPresent, AreApart, apart_core}
@@ -82,14 +83,6 @@ register_at names (rows ∷ rs) (suc r) h = register_at names rs r h.1
 
 within_row : (names : List Column) (rs : RegisterRows) (a : Reg) (b : ℕ) → AllByRecursion (AreWithin names) rs → IsWithin names (row_at rs a b)
 within_row names rs a b h = within_at names (rows_at rs a) b (register_at names rs a.0 h)
-
-each_range : {X : Type 0} (P : X → Type 0) (f : ℕ → X) (a n : ℕ) → ((k : ℕ) → k < a + n → P (f k)) → AllByRecursion P (map f (range_with_len a n))
-each_range P f a zero h = tt
-each_range P f a (suc n) h = (h a (omega arith), each_range P f (a + 1) n (λ k below. h k (omega arith)))
-
-each_append : {X : Type 0} (P : X → Type 0) (xs ys : List X) → AllByRecursion P xs → AllByRecursion P ys → AllByRecursion P (xs ++ ys)
-each_append P [] ys p q = q
-each_append P (x ∷ xs) ys p q = (p.0, each_append P xs ys p.1 q)
 
 -- ---- the rows of a circuit hold its columns only
 
@@ -242,16 +235,10 @@ by_name names set within = fun_ext (λ column. at_place names set column ∙ cas
 numbers_of_rows : (names : List Column) (rows : Rows) → map (named_in (slice_get names)) rows ≡ sets_of (rows_over names rows)
 numbers_of_rows names [] = refl
 numbers_of_rows names (row ∷ rows) = cons_same (by_number names row) (numbers_of_rows names rows)
-  where
-    cons_same : {X : Type 0} {x y : X} {xs ys : List X} → x ≡ y → xs ≡ ys → x ∷ xs ≡ y ∷ ys
-    cons_same p q = cc
 
 names_of_rows : (names : List Column) (rows : Rows) → AreWithin names rows → map (named_in (place_of names)) (sets_of (rows_over names rows)) ≡ rows
 names_of_rows names [] within = refl
 names_of_rows names (row ∷ rows) within = cons_same (by_name names row within.0) (names_of_rows names rows within.1)
-  where
-    cons_same : {X : Type 0} {x y : X} {xs ys : List X} → x ≡ y → xs ≡ ys → x ∷ xs ≡ y ∷ ys
-    cons_same p q = cc
 
 -- the products over the numbers of the names
 abbrev numbered_products : List Column → List (Product Column) → List (Product ℕ)
@@ -277,150 +264,158 @@ names_of_products names (product ∷ products) within =
 
 -- ---- attacks
 
-to_numbers : (core : Circuit) (t : ℕ) (leak : Columns Column) (probes : List Probe) → IsAttack (core_products core) t leak probes
-    → IsAttack (view.products_of (core_view core)) t (numbered core leak) probes
-to_numbers core t leak probes attack =
-    let names = core_columns core in
-    let products = core_products core in
-    subst (λ (l : Columns ℕ). IsAttack (view.products_of (core_view core)) t l probes) (by_number names leak)
-    (renamed_attacks (slice_get names) (place_of names) products (numbered_products names products) (numbers_of_products names products)
-    (names_of_products names products (within_products names (core_rows core) core.equations (within_core core))) t leak probes attack)
+-- by the law of renamed columns, from names to numbers and from numbers to names
+module _ (to : RenamingKeepsAttacks Column ℕ) (from : RenamingKeepsAttacks ℕ Column) where
+  to_numbers : (core : Circuit) (t : ℕ) (leak : Columns Column) (probes : List Probe) → IsAttack (core_products core) t leak probes
+      → IsAttack (view.products_of (core_view core)) t (numbered core leak) probes
+  to_numbers core t leak probes attack =
+      let names = core_columns core in
+      let products = core_products core in
+      subst (λ (l : Columns ℕ). IsAttack (view.products_of (core_view core)) t l probes) (by_number names leak)
+      (to (slice_get names) (place_of names) products (numbered_products names products)
+      (numbers_of_products names products)
+      (names_of_products names products (within_products names (core_rows core) core.equations (within_core core))) t leak probes attack)
 
-to_names : (core : Circuit) (t : ℕ) (leak : Columns ℕ) (probes : List Probe) → IsAttack (view.products_of (core_view core)) t leak probes
-    → IsAttack (core_products core) t (named_in (place_of (core_columns core)) leak) probes
-to_names core t leak probes attack =
-    let names = core_columns core in
-    let products = core_products core in
-    renamed_attacks (place_of names) (slice_get names) (numbered_products names products) products
-    (names_of_products names products (within_products names (core_rows core) core.equations (within_core core))) (numbers_of_products names products) t leak probes attack
+  to_names : (core : Circuit) (t : ℕ) (leak : Columns ℕ) (probes : List Probe) → IsAttack (view.products_of (core_view core)) t leak probes
+      → IsAttack (core_products core) t (named_in (place_of (core_columns core)) leak) probes
+  to_names core t leak probes attack =
+      let names = core_columns core in
+      let products = core_products core in
+      from (place_of names) (slice_get names) (numbered_products names products) products
+      (names_of_products names products (within_products names (core_rows core) core.equations (within_core core))) (numbers_of_products names products) t leak probes attack
 
-holds_within : (core : Circuit) (set : Columns Column) → HoldsCoreColumns core set → IsWithin (core_columns core) set
-holds_within core set holds column absent = by (set column) refl
-  where
-    by : (b : Bool) → set column ≡ b → set column ≡ false
-    by false e = e
-    by true e =
-        let there = holds column e in
-        absurd
-        (true≢false
-        (sym
-        (any_passes_from_place (same_column column) (core_columns core) there.0 column
-        (slice_get-get_or (core_columns core) there.0 column there.1 ∙ ap (λ (x : Column). Some x) there.2) (same_column-itself column))
-        ∙ absent))
+  holds_within : (core : Circuit) (set : Columns Column) → HoldsCoreColumns core set → IsWithin (core_columns core) set
+  holds_within core set holds column absent = by (set column) refl
+    where
+      by : (b : Bool) → set column ≡ b → set column ≡ false
+      by false e = e
+      by true e =
+          let there = holds column e in
+          absurd
+          (true≢false
+          (sym
+          (any_passes_from_place (same_column column) (core_columns core) there.0 column
+          (slice_get-get_or (core_columns core) there.0 column there.1 ∙ ap (λ (x : Column). Some x) there.2) (same_column-itself column))
+          ∙ absent))
 
--- a set of columns of the core is the leak again that its bits are
-to_names_again : (core : Circuit) (t : ℕ) (set : Columns Column) (probes : List Probe) → HoldsCoreColumns core set
-    → IsAttack (view.products_of (core_view core)) t (numbered core set) probes → IsAttack (core_products core) t set probes
-to_names_again core t set probes holds attack =
-    subst (λ (l : Columns Column). IsAttack (core_products core) t l probes) (by_name (core_columns core) set (holds_within core set holds))
-    (to_names core t (numbered core set) probes attack)
+  -- a set of columns of the core is the leak again that its bits are
+  to_names_again : (core : Circuit) (t : ℕ) (set : Columns Column) (probes : List Probe) → HoldsCoreColumns core set
+      → IsAttack (view.products_of (core_view core)) t (numbered core set) probes → IsAttack (core_products core) t set probes
+  to_names_again core t set probes holds attack =
+      subst (λ (l : Columns Column). IsAttack (core_products core) t l probes) (by_name (core_columns core) set (holds_within core set holds))
+      (to_names core t (numbered core set) probes attack)
 
--- ---- rows of bits
+  -- ---- rows of bits
 
--- a column of the set that a row makes is one of the columns
-in_columns : (names : List Column) (row : List Bool) (column : Column) → set_in names row column ≡ true → Contains names column
-in_columns [] row column there = absurd (true≢false (sym there))
-in_columns (name ∷ names) [] column there = absurd (true≢false (sym there))
-in_columns (name ∷ names) (bit ∷ row) column there =
-    by bit (same_column name column) refl there (in_columns names row column)
-  where
-    behind : Contains names column → Contains (name ∷ names) column
-    behind more = (suc more.0, omega (arith, more.1), more.2)
+  -- a column of the set that a row makes is one of the columns
+  in_columns : (names : List Column) (row : List Bool) (column : Column) → set_in names row column ≡ true
+      → Contains names column
+  in_columns [] row column there = absurd (true≢false (sym there))
+  in_columns (name ∷ names) [] column there = absurd (true≢false (sym there))
+  in_columns (name ∷ names) (bit ∷ row) column there =
+      by bit (same_column name column) refl there (in_columns names row column)
+    where
+      behind : Contains names column → Contains (name ∷ names) column
+      behind more = (suc more.0, omega (arith, more.1), more.2)
 
-    by : (b c : Bool) → same_column name column ≡ c → ((b && c) || set_in names row column) ≡ true
-        → (set_in names row column ≡ true → Contains names column) → Contains (name ∷ names) column
-    by true true e there rest = (0, omega arith, same_column-same name column e)
-    by true false e there rest = behind (rest there)
-    by false c e there rest = behind (rest there)
+      by : (b c : Bool) → same_column name column ≡ c → ((b && c) || set_in names row column) ≡ true
+          → (set_in names row column ≡ true → Contains names column) → Contains (name ∷ names) column
+      by true true e there rest = (0, omega arith, same_column-same name column e)
+      by true false e there rest = behind (rest there)
+      by false c e there rest = behind (rest there)
 
--- a column that is none of the columns is not in the set
-not_in : (names : List Column) (row : List Bool) (column : Column) → IsAbsent column names → set_in names row column ≡ false
-not_in names row column absent = by (set_in names row column) refl
-  where
-    by : (b : Bool) → set_in names row column ≡ b → set_in names row column ≡ false
-    by false e = e
-    by true e =
-        let there = in_columns names row column e in
-        absurd
-        (true≢false
-        (sym
-        (any_passes_from_place (same_column column) names there.0 column
-        (slice_get-get_or names there.0 column there.1 ∙ ap (λ (x : Column). Some x) there.2) (same_column-itself column))
-        ∙ absent))
+  -- a column that is none of the columns is not in the set
+  not_in : (names : List Column) (row : List Bool) (column : Column) → IsAbsent column names
+      → set_in names row column ≡ false
+  not_in names row column absent = by (set_in names row column) refl
+    where
+      by : (b : Bool) → set_in names row column ≡ b → set_in names row column ≡ false
+      by false e = e
+      by true e =
+          let there = in_columns names row column e in
+          absurd
+          (true≢false
+          (sym
+          (any_passes_from_place (same_column column) names there.0 column
+          (slice_get-get_or names there.0 column there.1
+          ∙ ap (λ (x : Column). Some x) there.2) (same_column-itself column))
+          ∙ absent))
 
--- a column before the others does not change their bits
-bits_behind : (name : Column) (bit : Bool) (row : List Bool) (names more : List Column) → IsAbsent name more
-    → map (set_in (name ∷ names) (bit ∷ row)) more ≡ map (set_in names row) more
-bits_behind name bit row names [] absent = refl
-bits_behind name bit row names (column ∷ more) absent =
-    let both = none_of_two (same_column name column) (list_any (same_column name) more) absent in
-    cons_same (first bit (same_column name column) both.0) (bits_behind name bit row names more both.1)
-  where
-    none_of_two : (x y : Bool) → (x || y) ≡ false → (x ≡ false) × (y ≡ false)
-    none_of_two true y e = absurd (cc)
-    none_of_two false y e = (refl, e)
+  -- a column before the others does not change their bits
+  bits_behind : (name : Column) (bit : Bool) (row : List Bool) (names more : List Column) → IsAbsent name more
+      → map (set_in (name ∷ names) (bit ∷ row)) more ≡ map (set_in names row) more
+  bits_behind name bit row names [] absent = refl
+  bits_behind name bit row names (column ∷ more) absent =
+      let both = none_of_two (same_column name column) (list_any (same_column name) more) absent in
+      cons_same (first bit (same_column name column) both.0) (bits_behind name bit row names more both.1)
+    where
+      none_of_two : (x y : Bool) → (x || y) ≡ false → (x ≡ false) × (y ≡ false)
+      none_of_two true y e = absurd (cc)
+      none_of_two false y e = (refl, e)
 
-    first : (b c : Bool) → c ≡ false → ((b && c) || set_in names row column) ≡ set_in names row column
-    first true true e = absurd (true≢false e)
-    first true false e = refl
-    first false c e = refl
+      first : (b c : Bool) → c ≡ false → ((b && c) || set_in names row column) ≡ set_in names row column
+      first true true e = absurd (true≢false e)
+      first true false e = refl
+      first false c e = refl
 
-    cons_same : {b c : Bool} {bs cs : List Bool} → b ≡ c → bs ≡ cs → b ∷ bs ≡ c ∷ cs
-    cons_same p q = cc
+  -- the bits of the set that a row makes are the row
+  bits_again : (names : List Column) (row : List Bool) → AreApart names → length row ≡ length names
+      → map (set_in names row) names ≡ row
+  bits_again [] [] apart e = refl
+  bits_again [] (bit ∷ row) apart e = absurd (omega arith)
+  bits_again (name ∷ names) [] apart e = absurd (omega arith)
+  bits_again (name ∷ names) (bit ∷ row) apart e =
+      cons_same (first bit (same_column name name) (same_column-itself name) (not_in names row name apart.0))
+      (bits_behind name bit row names names apart.0 ∙ bits_again names row apart.1 (omega arith))
+    where
+      first : (b c : Bool) → c ≡ true → set_in names row name ≡ false → ((b && c) || set_in names row name) ≡ b
+      first true true e absent = refl
+      first true false e absent = absurd (true≢false (sym e))
+      first false c e absent = absent
 
--- the bits of the set that a row makes are the row
-bits_again : (names : List Column) (row : List Bool) → AreApart names → length row ≡ length names → map (set_in names row) names ≡ row
-bits_again [] [] apart e = refl
-bits_again [] (bit ∷ row) apart e = absurd (omega arith)
-bits_again (name ∷ names) [] apart e = absurd (omega arith)
-bits_again (name ∷ names) (bit ∷ row) apart e =
-    cons_same (first bit (same_column name name) (same_column-itself name) (not_in names row name apart.0))
-    (bits_behind name bit row names names apart.0 ∙ bits_again names row apart.1 (omega arith))
-  where
-    first : (b c : Bool) → c ≡ true → set_in names row name ≡ false → ((b && c) || set_in names row name) ≡ b
-    first true true e absent = refl
-    first true false e absent = absurd (true≢false (sym e))
-    first false c e absent = absent
+  row_again : (core : Circuit) (row : List Bool) → length row ≡ length (core_columns core)
+      → numbered core (named core row) ≡ set_of row
+  row_again core row e = ap set_of (bits_again (core_columns core) row (apart_core core) e)
 
-    cons_same : {b c : Bool} {bs cs : List Bool} → b ≡ c → bs ≡ cs → b ∷ bs ≡ c ∷ cs
-    cons_same p q = cc
+  -- an attack on the core, with the set that a row makes, and one on the view, with the row
+  row_to_numbers : (core : Circuit) (row : List Bool) → length row ≡ length (core_columns core)
+      → (t : ℕ) (probes : List Probe)
+      → IsAttack (core_products core) t (named core row) probes
+      → IsAttack (view.products_of (core_view core)) t (set_of row) probes
+  row_to_numbers core row e t probes attack =
+      subst (λ (l : Columns ℕ). IsAttack (view.products_of (core_view core)) t l probes) (row_again core row e)
+      (to_numbers core t (named core row) probes attack)
 
-row_again : (core : Circuit) (row : List Bool) → length row ≡ length (core_columns core) → numbered core (named core row) ≡ set_of row
-row_again core row e = ap set_of (bits_again (core_columns core) row (apart_core core) e)
+  row_to_names : (core : Circuit) (row : List Bool) → length row ≡ length (core_columns core)
+      → (t : ℕ) (probes : List Probe)
+      → IsAttack (view.products_of (core_view core)) t (set_of row) probes
+      → IsAttack (core_products core) t (named core row) probes
+  row_to_names core row e t probes attack =
+      to_names_again core t (named core row) probes (in_columns (core_columns core) row)
+      (subst (λ (l : Columns ℕ). IsAttack (view.products_of (core_view core)) t l probes) (sym
+      (row_again core row e)) attack)
 
--- an attack on the core, with the set that a row makes, and one on the view, with the row
-row_to_numbers : (core : Circuit) (row : List Bool) → length row ≡ length (core_columns core) → (t : ℕ) (probes : List Probe)
-    → IsAttack (core_products core) t (named core row) probes → IsAttack (view.products_of (core_view core)) t (set_of row) probes
-row_to_numbers core row e t probes attack =
-    subst (λ (l : Columns ℕ). IsAttack (view.products_of (core_view core)) t l probes) (row_again core row e) (to_numbers core t (named core row) probes attack)
+  -- ---- the law
 
-row_to_names : (core : Circuit) (row : List Bool) → length row ≡ length (core_columns core) → (t : ℕ) (probes : List Probe)
-    → IsAttack (view.products_of (core_view core)) t (set_of row) probes → IsAttack (core_products core) t (named core row) probes
-row_to_names core row e t probes attack =
-    to_names_again core t (named core row) probes (in_columns (core_columns core) row)
-    (subst (λ (l : Columns ℕ). IsAttack (view.products_of (core_view core)) t l probes) (sym (row_again core row e)) attack)
-
--- ---- the law
-
-pub attacks_are_the_views : AttacksAreTheViews
-attacks_are_the_views =
-    record {
-      attack =
-          λ core is. (
-            λ has. (numbered core has.0, (has.1.0, has.1.1, to_numbers core has.1.0 has.0 has.1.1 has.1.2)),
-            λ has. (named_in (place_of (core_columns core)) has.0, (has.1.0, has.1.1, to_names core has.1.0 has.0 has.1.1 has.1.2)),
-          );
-      leak =
-          λ core is set holds. (
-            λ leak. (leak.0, leak.1, to_numbers core leak.0 set leak.1 leak.2),
-            λ leak. (leak.0, leak.1, to_names_again core leak.0 set leak.1 holds leak.2),
-          );
-      probes = λ core is set holds t probes. (to_numbers core t set probes, to_names_again core t set probes holds);
-      row = λ core is row e. (in_columns (core_columns core) row, row_again core row e);
-      row_leak =
-          λ core is row e. (
-            λ leak. (leak.0, leak.1, row_to_numbers core row e leak.0 leak.1 leak.2),
-            λ leak. (leak.0, leak.1, row_to_names core row e leak.0 leak.1 leak.2),
-          );
-      row_probes = λ core is row e t probes. (row_to_numbers core row e t probes, row_to_names core row e t probes);
-    }
+  pub attacks_are_the_views : AttacksAreTheViews
+  attacks_are_the_views =
+      record {
+        attack =
+            λ core is. (
+              λ has. (numbered core has.0, (has.1.0, has.1.1, to_numbers core has.1.0 has.0 has.1.1 has.1.2)),
+              λ has. (named_in (place_of (core_columns core)) has.0, (has.1.0, has.1.1, to_names core has.1.0 has.0 has.1.1 has.1.2)),
+            );
+        leak =
+            λ core is set holds. (
+              λ leak. (leak.0, leak.1, to_numbers core leak.0 set leak.1 leak.2),
+              λ leak. (leak.0, leak.1, to_names_again core leak.0 set leak.1 holds leak.2),
+            );
+        probes = λ core is set holds t probes. (to_numbers core t set probes, to_names_again core t set probes holds);
+        row = λ core is row e. (in_columns (core_columns core) row, row_again core row e);
+        row_leak =
+            λ core is row e. (
+              λ leak. (leak.0, leak.1, row_to_numbers core row e leak.0 leak.1 leak.2),
+              λ leak. (leak.0, leak.1, row_to_names core row e leak.0 leak.1 leak.2),
+            );
+        row_probes = λ core is row e t probes. (row_to_numbers core row e t probes, row_to_names core row e t probes);
+      }

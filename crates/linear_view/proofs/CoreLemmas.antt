@@ -1,13 +1,11 @@
 -- The rows of all registers of a circuit, and how far a walk over its equations has them.
-use Rattle.std.proofs.Common.{◌≡◌, ℕ, zero, suc, ◌+◌, ◌-◌, ◌%◌, ◌<◌, ◌≤◌, ◌==◌, ◌⊎◌, Bool, List, [], ◌∷◌, ◌++◌, length, map, flat_map, take, drop, get_or, set, refl, sym, ap, ◌∙◌, subst, arith, inl, inr, ⊎_elim, add-one, drop-cons, append_assoc, append-nil, if◌then◌else◌, nat_lt, Some}
+use Rattle.std.proofs.Common.{◌≡◌, ℕ, suc, ◌+◌, ◌-◌, ◌%◌, ◌<◌, ◌≤◌, ◌==◌, ◌⊎◌, Bool, List, [], ◌∷◌, ◌++◌, length, map, take, drop, get_or, set, refl, sym, ap, ◌∙◌, subst, arith, ⊎_elim, drop-cons, if◌then◌else◌, nat_lt}
 use Rattle.std.specs.Int.{bit_at}
-use Rattle.std.specs.List.{slice_get, AllByRecursion, range_with_len}
-use Rattle.std.proofs.lemmas.List.{get_or_append_left, get_or_push, length_push, take-append-drop, length-take-le, length-append, length-map, take_more, get_or-set_same, get_or-set_other, length-set, map-append}
+use Rattle.std.specs.List.{AllByRecursion, range_with_len}
+use Rattle.std.proofs.lemmas.List.{get_or_append_left, get_or_push, length_push, take-append-drop, length-take-le, get_or-set_same, get_or-set_other}
 use Rattle.std.proofs.lemmas.List.FromFn.{get_or-map-range_with_len, length-map-range_with_len}
-use Rattle.std.proofs.lemmas.Option.{get_or_from_slice_get, slice_get_within, slice_get-get_or}
 use mathlib.Core.Path.{fun_ext}
 use Rattle.span_model.specs.Columns.{Columns, empty, ◌△◌}
-use Rattle.span_model.specs.Attack.{Product}
 use Rattle.usuba0.specs.declared.circuit.Gate.{Gate}
 use Rattle.usuba0.specs.declared.circuit.Gate.TheVariants as gate
 use Rattle.usuba0.specs.declared.circuit.Reg.{Reg}

@@ -1,5 +1,5 @@
 -- Names of columns: when two are the same, and where one stands in a list of names.
-use Rattle.std.proofs.Common.{◌≡◌, ◌≢◌, ℕ, zero, suc, ◌+◌, ◌<◌, ◌⊎◌, ⊎_elim, Bool, true, false, not, ◌&&◌, ◌||◌, eqb, List, [], ◌∷◌, ◌++◌, length, map, set, get_or, replicate, Option, None, Some, position, refl, sym, ap, ◌∙◌, arith, rules, true≢false}
+use Rattle.std.proofs.Common.{◌≡◌, ◌≢◌, ℕ, ◌<◌, ◌⊎◌, ⊎_elim, Bool, true, false, not, ◌&&◌, ◌||◌, eqb, List, [], ◌∷◌, length, map, set, get_or, replicate, Some, position, refl, sym, ap, ◌∙◌, arith, rules, true≢false}
 use Rattle.std.proofs.lemmas.List.{same_lists, length-set, length-replicate, length-map, get_or-replicate, get_or-set_same, get_or-set_other, get_or-map}
 use Rattle.std.proofs.lemmas.List.Quantifiers.{position-Some}
 use Rattle.std.proofs.lemmas.Map.Keys.{any_passes_from_place, apart_from_distinct}
@@ -11,6 +11,7 @@ use Rattle.linear_view.specs.declared.column.ColumnKind.TheVariants.{Input, Prod
 use Rattle.linear_view.specs.contracts.column.ColumnPartialEq.TheImpl as impl
 use Rattle.linear_view.specs.Names.{same_kind, same_column}
 use Rattle.linear_view.specs.Walk.{AreOnce}
+use Rattle.linear_view.proofs.ListLemmas.{cons_same}
 
 kind_itself : (k : ColumnKind) → same_kind k k ≡ true
 kind_itself Input = refl
@@ -115,9 +116,6 @@ row_of_none (x ∷ xs) name e =
     none_of_two : (x y : Bool) → (x || y) ≡ false → (x ≡ false) × (y ≡ false)
     none_of_two true y e = absurd (cc)
     none_of_two false y e = (refl, e)
-
-    cons_same : {b c : Bool} {bs cs : List Bool} → b ≡ c → bs ≡ cs → b ∷ bs ≡ c ∷ cs
-    cons_same p q = cc
 
 pub row_of_one : (names : List Column) (name : Column) (c : ℕ) → AreOnce names → slice_get names c ≡ Some name
     → set (replicate (length names) false) c (not (get_or (replicate (length names) false) c false)) ≡ map (same_column name) names

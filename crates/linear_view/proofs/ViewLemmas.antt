@@ -1,16 +1,14 @@
 -- What holds of the view of a circuit within the limits.
-use Rattle.std.proofs.Common.{◌≡◌, ℕ, zero, suc, ◌+◌, ◌-◌, ◌*◌, ◌^◌, ◌<◌, ◌≤◌, Bool, List, [], ◌∷◌, ◌++◌, length, map, flat_map, take, get_or, All, Option, refl, sym, ap, ◌∙◌, subst, arith}
-use Rattle.std.specs.List.{slice_get, AllByRecursion, range_with_len}
+use Rattle.std.proofs.Common.{◌≡◌, ℕ, zero, suc, ◌+◌, ◌*◌, ◌^◌, ◌<◌, ◌≤◌, Bool, List, [], ◌∷◌, ◌++◌, length, map, flat_map, take, get_or, All, Option, refl, sym, ap, ◌∙◌, subst, arith}
+use Rattle.std.specs.List.{AllByRecursion, range_with_len}
 use Rattle.std.specs.Option.{option_to_list}
-use Rattle.std.proofs.lemmas.List.{length_push, length-append, length-map, get_or-map, map-append, take_all, take_more, flat_map_more}
+use Rattle.std.proofs.lemmas.List.{length-append, length-map, map-append, take_all, take_more, flat_map_more}
 use Rattle.std.proofs.lemmas.List.FromFn.{length-map-range_with_len}
-use Rattle.std.proofs.lemmas.Grind.{flat_map-append}
 use Rattle.span_model.specs.Columns.{Columns}
-use Rattle.span_model.specs.Attack.{Product}
 use Rattle.usuba0.specs.declared.circuit.Gate.{Gate}
 use Rattle.usuba0.specs.declared.circuit.Gate.TheVariants as gate
 use Rattle.usuba0.specs.declared.circuit.Reg.{Reg}
-use Rattle.usuba0.specs.Circuit.{Circuit, IsCore, IsEquation, AreEquations, products_of, refreshes_of, registers}
+use Rattle.usuba0.specs.Circuit.{Circuit, IsCore, AreEquations, products_of, refreshes_of}
 use Rattle.linear_view.specs.declared.column.Column.{Column}
 use Rattle.linear_view.specs.declared.column.ColumnKind.{ColumnKind}
 use Rattle.linear_view.specs.declared.column.ColumnKind.TheVariants as column
@@ -18,6 +16,7 @@ use Rattle.linear_view.specs.Names.{own_columns, input_columns, gate_columns, eq
 use Rattle.linear_view.specs.Rows.{Rows, RegisterRows, rows_at, rows_over, operands_over, gate_rows, gate_row, input_rows, rows_after, core_rows, gate_product, core_products, core_view}
 use Rattle.linear_view.specs.CoreViewLaw.{HaveRows, CoreViewSize}
 use Rattle.linear_view.specs.View.{Operands, LinearView, AreOperands, IsSmallName, IsView}
+use Rattle.linear_view.proofs.ListLemmas.{all_from_each, each_append, each_map, each_range}
 use Rattle.linear_view.proofs.ApartLemmas.{apart_core, once_from_apart}
 use Rattle.linear_view.proofs.ColumnLemmas.{products_of-cons, refreshes_of-cons}
 use Rattle.linear_view.proofs.CoreLemmas.{all_rows, input_registers, length-all_rows}
@@ -81,23 +80,6 @@ length-core_columns core =
 
 -- ---- the operands
 
-pub all_from_each : {X : Type 0} (P : X → Type 0) (xs : List X) → AllByRecursion P xs → All P xs
-all_from_each P [] h k d within = absurd (omega arith)
-all_from_each P (x ∷ xs) h zero d within = h.0
-all_from_each P (x ∷ xs) h (suc k) d within = all_from_each P xs h.1 k d (omega arith)
-
-each_append : {X : Type 0} (P : X → Type 0) (xs ys : List X) → AllByRecursion P xs → AllByRecursion P ys → AllByRecursion P (xs ++ ys)
-each_append P [] ys p q = q
-each_append P (x ∷ xs) ys p q = (p.0, each_append P xs ys p.1 q)
-
-each_map : {X Y : Type 0} (P : Y → Type 0) (f : X → Y) (xs : List X) → ((x : X) → P (f x)) → AllByRecursion P (map f xs)
-each_map P f [] h = tt
-each_map P f (x ∷ xs) h = (h x, each_map P f xs h)
-
-each_range : {X : Type 0} (P : X → Type 0) (f : ℕ → X) (a n : ℕ) → ((k : ℕ) → k < a + n → P (f k)) → AllByRecursion P (map f (range_with_len a n))
-each_range P f a zero h = tt
-each_range P f a (suc n) h = (h a (omega arith), each_range P f (a + 1) n (λ k below. h k (omega arith)))
-
 abbrev HasWidth : ℕ → Rows → Type 0
 HasWidth w rows = length rows ≡ w
 
@@ -133,21 +115,30 @@ operands_are names w left right some el er =
 
 -- what holds of the operands of each product whose registers there are holds of all the products
 each_product : (P : Operands → Type 0) (names : List Column) (w m : ℕ) (all : RegisterRows) (gs : List Gate)
-    → ((a b : Reg) → a.0 < m + length gs → b.0 < m + length gs → P (operands_over names (record { left = rows_at all a; right = rows_at all b })))
+    → ((a b : Reg) → a.0 < m + length gs → b.0 < m + length gs
+    → P (operands_over names (record { left = rows_at all a; right = rows_at all b })))
     → AreEquations w m gs → AllByRecursion P (map (operands_over names) (flat_map (gate_product all) gs))
 each_product P names w m all [] each are = tt
-each_product P names w m all (gate.Const c ∷ gs) each are = each_product P names w (suc m) all gs (λ a b h k. each a b (omega arith) (omega arith)) are.1
-each_product P names w m all (gate.Xor x y ∷ gs) each are = each_product P names w (suc m) all gs (λ a b h k. each a b (omega arith) (omega arith)) are.1
-each_product P names w m all (gate.Not x ∷ gs) each are = each_product P names w (suc m) all gs (λ a b h k. each a b (omega arith) (omega arith)) are.1
-each_product P names w m all (gate.Mask c x ∷ gs) each are = each_product P names w (suc m) all gs (λ a b h k. each a b (omega arith) (omega arith)) are.1
+each_product P names w m all (gate.Const c ∷ gs) each are = each_product P names w (suc m) all gs
+    (λ a b h k. each a b (omega arith) (omega arith)) are.1
+each_product P names w m all (gate.Xor x y ∷ gs) each are = each_product P names w (suc m) all gs
+    (λ a b h k. each a b (omega arith) (omega arith)) are.1
+each_product P names w m all (gate.Not x ∷ gs) each are = each_product P names w (suc m) all gs
+    (λ a b h k. each a b (omega arith) (omega arith)) are.1
+each_product P names w m all (gate.Mask c x ∷ gs) each are = each_product P names w (suc m) all gs
+    (λ a b h k. each a b (omega arith) (omega arith)) are.1
 each_product P names w m all (gate.And x y ∷ gs) each are = (
   each x y (omega (arith, are.0.0)) (omega (arith, are.0.1)),
   each_product P names w (suc m) all gs (λ a b h k. each a b (omega arith) (omega arith)) are.1,
 )
-each_product P names w m all (gate.Shl k x ∷ gs) each are = each_product P names w (suc m) all gs (λ a b h k. each a b (omega arith) (omega arith)) are.1
-each_product P names w m all (gate.Shr k x ∷ gs) each are = each_product P names w (suc m) all gs (λ a b h k. each a b (omega arith) (omega arith)) are.1
-each_product P names w m all (gate.Rotl k x ∷ gs) each are = each_product P names w (suc m) all gs (λ a b h k. each a b (omega arith) (omega arith)) are.1
-each_product P names w m all (gate.Refresh x ∷ gs) each are = each_product P names w (suc m) all gs (λ a b h k. each a b (omega arith) (omega arith)) are.1
+each_product P names w m all (gate.Shl k x ∷ gs) each are = each_product P names w (suc m) all gs
+    (λ a b h k. each a b (omega arith) (omega arith)) are.1
+each_product P names w m all (gate.Shr k x ∷ gs) each are = each_product P names w (suc m) all gs
+    (λ a b h k. each a b (omega arith) (omega arith)) are.1
+each_product P names w m all (gate.Rotl k x ∷ gs) each are = each_product P names w (suc m) all gs
+    (λ a b h k. each a b (omega arith) (omega arith)) are.1
+each_product P names w m all (gate.Refresh x ∷ gs) each are = each_product P names w (suc m) all gs
+    (λ a b h k. each a b (omega arith) (omega arith)) are.1
 
 products_are : (names : List Column) (core : Circuit) → IsCore core
     → AllByRecursion (AreOperands (length names)) (map (operands_over names) (core_products core))
@@ -155,7 +146,8 @@ products_are names core is =
     let all = core_rows core in
     let wide = all_rows-width core.width core.inputs core.equations in
     each_product (AreOperands (length names)) names core.width core.inputs all core.equations
-    (λ a b h k. operands_are names core.width (rows_at all a) (rows_at all b) is.some_width (wide a.0 h) (wide b.0 k)) is.equations
+    (λ a b h k. operands_are names core.width (rows_at all a) (rows_at all b) is.some_width (wide a.0 h)
+    (wide b.0 k)) is.equations
 
 products_many : (names : List Column) (all : RegisterRows) (gs : List Gate) → length (map (operands_over names) (flat_map (gate_product all) gs)) ≡ products_of gs
 products_many names all [] = refl
@@ -175,17 +167,23 @@ core_view_size =
     record {
       columns = length-core_columns;
       products = λ core. products_many (core_columns core) (core_rows core) core.equations;
-      rows = λ core is. all_from_each (HaveRows core.width) (core_view core).products (rows_are (core_columns core) core is);
+      rows = λ core is. all_from_each (HaveRows core.width) (core_view core).products (rows_are
+          (core_columns core) core is);
     }
   where
-    rows_are : (names : List Column) (core : Circuit) → IsCore core → AllByRecursion (HaveRows core.width) (map (operands_over names) (core_products core))
+    rows_are : (names : List Column) (core : Circuit) → IsCore core
+        → AllByRecursion (HaveRows core.width) (map (operands_over names) (core_products core))
     rows_are names core is =
         let all = core_rows core in
         let over : Columns Column → List Bool = λ set. map set names in
         let wide = all_rows-width core.width core.inputs core.equations in
         each_product (HaveRows core.width) names core.width core.inputs all core.equations
         (λ a b h k.
-        record { left = length-map (rows_at all a) over ∙ wide a.0 h; right = length-map (rows_at all b) over ∙ wide b.0 k })
+        record {
+          left = length-map (rows_at all a) over ∙ wide a.0 h;
+          right = length-map (rows_at all b) over
+              ∙ wide b.0 k;
+        })
         is.equations
 
 -- ---- the names
@@ -249,7 +247,8 @@ core_view_is core is few =
 
 pub view_is : (core : Circuit) (columns : List Column) (products : List Operands) → IsCore core
     → (core.inputs + products_of core.equations + refreshes_of core.equations) * core.width ≤ 32768
-    → columns ≡ core_columns core → products ≡ (core_view core).products → IsView (record { columns = columns; products = products })
+    → columns ≡ core_columns core → products ≡ (core_view core).products
+    → IsView (record { columns = columns; products = products })
 view_is core columns products is few ec ep =
     let same : (let view : LinearView = record { columns = columns; products = products } in view ≡ core_view core) =
     ap (λ (c : List Column). let view : LinearView = record { columns = c; products = products } in view) ec

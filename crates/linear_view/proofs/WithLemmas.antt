@@ -1,5 +1,5 @@
 -- A view with the columns of another one and operands that are given in two lists.
-use Rattle.std.proofs.Common.{◌≡◌, ℕ, ◌+◌, ◌<◌, ◌≤◌, Bool, List, [], ◌∷◌, ◌++◌, length, reverse, All, refl, sym, ap, ◌∙◌, subst, arith, append_assoc}
+use Rattle.std.proofs.Common.{◌≡◌, ◌≤◌, Bool, List, [], ◌∷◌, ◌++◌, length, reverse, All, refl, sym, ap, ◌∙◌, subst, arith, append_assoc}
 use Rattle.std.proofs.lemmas.List.{length_push, reverse-append}
 use Rattle.linear_view.specs.declared.column.Column.{Column}
 use Rattle.linear_view.specs.View.{Operands, LinearView, AreOperands, IsView, operands_of}

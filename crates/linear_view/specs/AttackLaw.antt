@@ -26,9 +26,10 @@ set_in (name ∷ names) (bit ∷ row) column = (bit && same_column name column) 
 abbrev pub named : Circuit → List Bool → Columns Column
 named core row = set_in (core_columns core) row
 
--- a core has an attack exactly where its view has one, and a set of its columns is the leak of an attack on the core exactly where its bits are one of
--- an attack on the view, with the very same probes; a row of bits, one for each column, is the bits of a set of columns of the core, so it is the leak of
--- an attack on the view exactly where this set is one of an attack on the core
+-- a core has an attack exactly where its view has one, and a set of its columns is the leak of an attack on the core
+-- exactly where its bits are one of an attack on the view, with the very same probes; a row of bits, one for each
+-- column, is the bits of a set of columns of the core, so it is the leak of an attack on the view exactly where this
+-- set is one of an attack on the core
 pub record AttacksAreTheViews : Type 0 where
   pub attack : (core : Circuit) → IsCore core → HasAttack (core_products core) ↔ HasAttack (products_of (core_view core))
   pub leak : (core : Circuit) → IsCore core → (set : Columns Column) → HoldsCoreColumns core set
@@ -39,5 +40,7 @@ pub record AttacksAreTheViews : Type 0 where
       → HoldsCoreColumns core (named core row) × (numbered core (named core row) ≡ set_of row)
   pub row_leak : (core : Circuit) → IsCore core → (row : List Bool) → length row ≡ length (core_columns core)
       → IsLeak (core_products core) (named core row) ↔ IsLeak (products_of (core_view core)) (set_of row)
-  pub row_probes : (core : Circuit) → IsCore core → (row : List Bool) → length row ≡ length (core_columns core) → (t : ℕ) (probes : List Probe)
-      → IsAttack (core_products core) t (named core row) probes ↔ IsAttack (products_of (core_view core)) t (set_of row) probes
+  pub row_probes : (core : Circuit) → IsCore core → (row : List Bool) → length row ≡ length (core_columns core)
+      → (t : ℕ) (probes : List Probe)
+      → IsAttack (core_products core) t (named core row) probes
+      ↔ IsAttack (products_of (core_view core)) t (set_of row) probes

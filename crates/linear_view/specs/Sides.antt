@@ -1,5 +1,5 @@
 -- Operands by the number of their product and their side, and their rows in a view.
-use Rattle.std.specs.Prelude.{ℕ, Bool, List, [], slice_index_or}
+use Rattle.std.specs.Prelude.{Bool, List, [], slice_index_or}
 use Rattle.span_model.specs.Closure.{Side as ProductSide, on_left, on_right, Step}
 use Rattle.linear_view.specs.declared.operand.Operand.{Operand}
 use Rattle.linear_view.specs.declared.operand.Side.{Side}

@@ -1,5 +1,5 @@
 -- What is kept along the equations of a core while the rows of its registers are made. No public clause needs it.
-use Rattle.std.specs.Prelude.{◌≡◌, ℕ, ◌+◌, ◌<◌, ◌≤◌, Bool, false, List, [], ◌∷◌, length, Some, slice_get, slice_index, slice_index_or}
+use Rattle.std.specs.Prelude.{◌≡◌, ℕ, ◌<◌, ◌≤◌, Bool, false, List, [], ◌∷◌, length, Some, slice_get, slice_index, slice_index_or}
 use Rattle.std.specs.List.{AllByRecursion, list_any}
 use Rattle.usuba0.specs.declared.circuit.Gate.{Gate}
 use Rattle.usuba0.specs.declared.circuit.Gate.TheVariants as gate

@@ -18,7 +18,8 @@ pub(crate) fn columns_of(
     gates: &[Gate],
 ) -> Result<IndexSet<Column>, AllocError>
     requires { length gates.now < 2 ^ 32 }
-    ensures { IfOk result (λ columns. columns.keys ≡ input_columns width inputs ++ equation_columns width 0 0 gates.now) }
+    ensures { IfOk result (λ columns. columns.keys
+        ≡ input_columns width inputs ++ equation_columns width 0 0 gates.now) }
 {
     let mut columns = IndexSet::new(alloc);
     for number in 0..inputs {
@@ -40,7 +41,8 @@ fn add_gate_columns(
 ) -> Result<(), AllocError>
     requires product { IsNewName column.Product stage.products columns.old.keys }
     requires refresh { IsNewName column.Refresh stage.refreshes columns.old.keys }
-    ensures { OnOk result (columns.new.keys ≡ columns.old.keys ++ gate_columns stage.width stage.products stage.refreshes gate.now) }
+    ensures { OnOk result (columns.new.keys
+        ≡ columns.old.keys ++ gate_columns stage.width stage.products stage.refreshes gate.now) }
 {
     match gate {
         Gate::And(_, _) => add_columns(columns, stage.width, ColumnKind::Product, stage.products),

@@ -10,7 +10,7 @@ ghost use Rattle.linear_view.specs.Walk.{HoldsReads, KeepsLater};
 use crate::column::{Column, ColumnKind};
 use crate::view::Pair;
 use crate::walk::{Stage, reads};
-use gf2_span::BitRow;
+use gf2_span::{BitRow, copy_rows};
 use indexmap::IndexSet;
 use std::alloc::{AllocError, Global};
 use tor_edge::List;
@@ -244,21 +244,10 @@ pub(crate) fn pair_of(
 {
     match *gate {
         Gate::And(a, b) => {
-            let left = copies(alloc, registers[a.0 as usize].as_slice())?;
-            let right = copies(alloc, registers[b.0 as usize].as_slice())?;
-            Ok(Some(Pair::new(left, right)))
+            let left = copy_rows(alloc, registers[a.0 as usize].as_slice())?;
+            let right = copy_rows(alloc, registers[b.0 as usize].as_slice())?;
+            Ok(Some(Pair::new(List::from_vec(left), List::from_vec(right))))
         }
         _ => Ok(None),
     }
-}
-
-// Copies of the rows.
-fn copies(alloc: Global, rows: &[BitRow]) -> Result<List<BitRow>, AllocError>
-    ensures { IfOk result (λ copies. copies ≡ rows.now) }
-{
-    let mut copies = List::new(alloc);
-    for row in rows {
-        copies.push(row.copy(alloc)?)?;
-    }
-    Ok(copies)
 }

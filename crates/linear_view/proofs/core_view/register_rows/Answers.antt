@@ -1,12 +1,9 @@
-use Rattle.std.proofs.Common.{◌≡◌, ℕ, Bool, List, [], ◌∷◌, ◌++◌, Option, length, get_or, set, subst, sym, ap, ◌∙◌, arith, append-nil}
+use Rattle.std.proofs.Common.{ℕ, List, [], ◌∷◌, ◌++◌, length, get_or, set, subst, ap, arith}
 use Rattle.std.proofs.lemmas.Option.{slice_get-get_or}
-use Rattle.std.specs.Option.{option_to_list}
 use Rattle.usuba0.specs.declared.circuit.Gate.TheVariants as gate
 use Rattle.linear_view.specs.Rows.{gate_rows, rows_over}
-use Rattle.linear_view.specs.View.{Operands}
-use Rattle.linear_view.specs.Walk.{HoldsReads, KeepsLater}
-use Rattle.linear_view.proofs.CoreLemmas.{all_rows, core_equations, all_rows-core, under_way_first, under_way_next, under_way_equation, under_way_reads, under_way_counts, late_wanted}
-use Rattle.linear_view.proofs.ViewLemmas.{products_step}
+use Rattle.linear_view.specs.Walk.{KeepsLater}
+use Rattle.linear_view.proofs.CoreLemmas.{all_rows, core_equations, under_way_first, under_way_next, under_way_equation, under_way_reads, under_way_counts, late_wanted}
 use Rattle.linear_view.proofs.core_view.register_rows.Goals as goal
 
 pub loop-gate-init : goal.loop-gate-init

@@ -1,6 +1,6 @@
-use Rattle.std.proofs.Common.{ℕ, ◌+◌, ◌-◌, ◌%◌, List, sym, ap, ◌∙◌}
+use Rattle.std.proofs.Common.{◌+◌, ◌-◌, ◌%◌, sym, ap, ◌∙◌}
 use Rattle.std.proofs.lemmas.Result.{IfOk-weaker}
-use Rattle.span_model.specs.Columns.{Columns, empty, ◌△◌}
+use Rattle.span_model.specs.Columns.{empty}
 use Rattle.usuba0.specs.declared.circuit.Gate.{Gate}
 use Rattle.linear_view.specs.Rows.{gate_row, row_at}
 use Rattle.linear_view.specs.Walk.{reads}

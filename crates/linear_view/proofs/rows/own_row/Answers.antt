@@ -1,4 +1,4 @@
-use Rattle.std.proofs.Common.{ℕ, Bool, false, not, List, get_or, set, replicate, sym, ap, ◌∙◌}
+use Rattle.std.proofs.Common.{ℕ, Bool, false, not, List, get_or, set, replicate, ap, ◌∙◌}
 use Rattle.linear_view.specs.declared.column.Column.{Column}
 use Rattle.linear_view.proofs.NameLemmas.{row_of_one, row_of_none, once_from_distinct, place_found}
 use Rattle.linear_view.proofs.rows.own_row.Goals as goal

@@ -1,4 +1,4 @@
-use Rattle.std.proofs.Common.{ℕ, List, ◌++◌, length, ap, ◌∙◌}
+use Rattle.std.proofs.Common.{List, ◌++◌, length, ap, ◌∙◌}
 use Rattle.tor_edge.proofs.Writing.{Wrote-is, Wrote-then, Wrote-stops}
 use Rattle.linear_view.specs.declared.column.Column.{Column}
 use Rattle.linear_view.specs.View.{Operands}

@@ -1,4 +1,4 @@
-use Rattle.std.proofs.Common.{List, [], ◌∷◌, ◌++◌, ap, ◌∙◌}
+use Rattle.std.proofs.Common.{[], ◌∷◌, ◌++◌, ap, ◌∙◌}
 use Rattle.linear_view.specs.View.{Operands}
 use Rattle.linear_view.proofs.WithLemmas.{pairs_next}
 use Rattle.linear_view.proofs.view.pairs.Goals as goal

@@ -1,4 +1,4 @@
-use Rattle.std.proofs.Common.{List, subst, ap, ◌∙◌, rules}
+use Rattle.std.proofs.Common.{subst, ap, ◌∙◌, rules}
 use Rattle.std.proofs.lemmas.List.Elements.{same_from_all_zip}
 use Rattle.linear_view.specs.View.{LinearView, IsView}
 use Rattle.linear_view.proofs.WithLemmas.{with_is, with_value}

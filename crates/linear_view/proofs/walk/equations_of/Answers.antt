@@ -1,4 +1,4 @@
-use Rattle.std.proofs.Common.{◌≡◌, ◌++◌, ◌∷◌, [], ap, sym, ◌∙◌, arith}
+use Rattle.std.proofs.Common.{◌++◌, ◌∷◌, [], ap, sym, ◌∙◌, arith}
 use Rattle.linear_view.proofs.WalkLemmas.{take-push, past_none}
 use Rattle.linear_view.proofs.walk.equations_of.Goals as goal
 use Rattle.linear_view.proofs.walk.equations_of.Goals.{in-Some+in_ok-push, in_default}

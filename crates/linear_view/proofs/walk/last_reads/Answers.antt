@@ -1,11 +1,10 @@
-use Rattle.std.proofs.Common.{◌≡◌, ℕ, ◌+◌, ◌<◌, ◌≤◌, ◌⊎◌, List, [], ◌∷◌, ◌++◌, get_or, Some, subst, sym, ap, ◌∙◌, arith, inl, inr, ⊎_elim}
-use Rattle.std.proofs.lemmas.Option.{slice_get_within, get_or_from_slice_get}
-use Rattle.std.specs.List.{slice_get, AllByRecursion}
-use Rattle.usuba0.specs.declared.circuit.Gate.{Gate}
+use Rattle.std.proofs.Common.{◌+◌, ◌<◌, List, get_or, subst, sym, ◌∙◌, arith}
+use Rattle.std.proofs.lemmas.Option.{slice_get_within}
+use Rattle.std.specs.List.{AllByRecursion}
 use Rattle.usuba0.specs.declared.circuit.Gate.TheVariants as gate
 use Rattle.usuba0.specs.declared.circuit.Reg.{Reg}
 use Rattle.usuba0.proofs.CircuitLemmas.{equation_at}
-use Rattle.linear_view.specs.Walk.{reads, AreReadLate}
+use Rattle.linear_view.specs.Walk.{reads}
 use Rattle.linear_view.proofs.WalkLemmas.{reads_earlier, all_weaker, first_of_all, second_of_all, late_more}
 use Rattle.linear_view.proofs.walk.last_reads.Goals as goal
 

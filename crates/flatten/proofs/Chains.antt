@@ -16,6 +16,7 @@ use Rattle.flatten.proofs.Trees.{unrolled_links}
 use Rattle.flatten.proofs.Made.{join_by, SoFar, unrolled-chain, made-joined, refused-right, refused-sign, refused-chained}
 use Rattle.flatten.proofs.Extends.{Extends-twice, term_of-extends, environment-extends, IsReady-extends}
 
+-- a chain is met with its first operand, before its first sign
 pub chain-starts : (whole a first : Expr) (op : BitOp) (rest links : List Link) → whole ≡ e.Chain op a rest → op ≢ Or → first ≡ a → links ≡ rest
     → unrolled_expression whole ≡ chained (join_by op) (unrolled_expression first) (unrolled_links links)
 chain-starts whole a first op rest links is chains same too =
@@ -23,6 +24,7 @@ chain-starts whole a first op rest links is chains same too =
     ∙ ap (λ x. chained (join_by op) (unrolled_expression x) (unrolled_links rest)) (sym same)
     ∙ ap (λ ls. chained (join_by op) (unrolled_expression first) (unrolled_links ls)) (sym too)
 
+-- what is left of the links begins with the next one
 pub drop-step : (links : List Link) (i : ℕ) (item : Link) → i < length links → item ≡ get_or links i item → drop i links ≡ item ∷ drop (i + 1) links
 drop-step links i item within is =
     drop-cons links i item within ∙ ap (λ x. x ∷ drop (suc i) links) (sym is) ∙ ap (λ k. item ∷ drop k links) (sym (add-one i))
@@ -48,6 +50,7 @@ step table E s0 s1 s2 s3 whole op rest item first now flat after value operand n
       chains = so.chains;
     }
 
+-- one more sign and operand of a chain were met
 pub chain-step : (table : List ℕ → Option (Option Reg)) (s0 s1 s2 s3 : ℕ) (whole : Option Expression) (op : BitOp) (links rest : List Link) (item : Link) (first now flat after : Held) (value operand new : Reg)
     → AllHeld table first
     → SoFar table (held_by (slots_of table first)) s0 whole op links first now value s1
@@ -62,6 +65,7 @@ chain-step table s0 s1 s2 s3 whole op links rest item first now flat after value
     (subst (λ ls. SoFar table (held_by (slots_of table first)) s0 whole op ls first now value s1) is so)
     (subst (λ E. IsMade E s1 (unrolled_expression item.operand) (term_of flat operand) s2) (environment-extends table first now held so.grows) made)
 
+-- a chain is refused where its next operand is
 pub chain-refused_operand : (table : List ℕ → Option (Option Reg)) (s0 s1 : ℕ) (whole : Option Expression) (op : BitOp) (links rest : List Link) (item : Link) (first now : Held) (value : Reg)
     → AllHeld table first
     → SoFar table (held_by (slots_of table first)) s0 whole op links first now value s1
@@ -77,6 +81,7 @@ chain-refused_operand table s0 s1 whole op links rest item first now value held 
     (refused-chained op here.chains E s0 (both (join_by op) here.met (unrolled_expression item.operand)) (unrolled_links rest)
     (refused-right op here.chains E s0 s1 here.met (unrolled_expression item.operand) (term_of now value) here.made no))
 
+-- a chain is refused where its next sign is one too many
 pub chain-refused_sign : (table : List ℕ → Option (Option Reg)) (s0 s1 s2 : ℕ) (whole : Option Expression) (op : BitOp) (links rest : List Link) (item : Link) (first now flat : Held) (value operand : Reg)
     → AllHeld table first
     → SoFar table (held_by (slots_of table first)) s0 whole op links first now value s1
@@ -93,6 +98,7 @@ chain-refused_sign table s0 s1 s2 whole op links rest item first now flat value 
     (refused-chained op here.chains E s0 (both (join_by op) here.met (unrolled_expression item.operand)) (unrolled_links rest)
     (refused-sign op here.chains E s0 s1 s2 here.met (unrolled_expression item.operand) (term_of now value) (term_of flat operand) here.made this full))
 
+-- a chain whose links were all met is met
 pub chain-ends : (table : List ℕ → Option (Option Reg)) (E : Environment Term) (s0 s1 : ℕ) (whole : Option Expression) (op : BitOp) (links : List Link) (first now : Held) (value : Reg)
     → SoFar table E s0 whole op links first now value s1 → links ≡ [] → IsMade E s0 whole (term_of now value) s1
 chain-ends table E s0 s1 whole op links first now value so none =

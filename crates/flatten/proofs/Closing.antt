@@ -28,6 +28,7 @@ use Rattle.flatten.proofs.Whole.{refused-items, thin-assigned, taken-thin, taken
 none_some : {A : Type 0} {x : A} → None ≡ Some x → ⊥
 none_some e = cc e
 
+-- an empty map declares nothing
 pub empty-table : {S : Type 0} (names : HashMap (Bor (List ℕ)) (Option Reg) S) → names.entries ≡ [] → register_at names ≡ (λ name. None)
 empty-table names empty = ap (λ (es : List (Bor (List ℕ) × Option Reg)). λ (name : List ℕ). lookup (λ key. bytes_eq name key.now) es) empty
 
@@ -43,6 +44,7 @@ declared_all-append t (d ∷ a) b =
     at true x y is = is
     at false x y is = refl
 
+-- the names of a node are declared in three steps
 pub declared-three : (node : Node) (t0 t1 t2 : Table) (last : Option Table) → t0 ≡ (λ name. None) → declared_all t0 node.inputs ≡ Some t1 → declared_all t1 node.outputs ≡ Some t2
     → declared_all t2 node.locals ≡ last → declared_all (λ name. None) (declarations node) ≡ last
 declared-three node t0 t1 t2 last empty first second third =
@@ -51,6 +53,7 @@ declared-three node t0 t1 t2 last empty first second third =
     ∙ ap (option_and_then (λ u. declared_all u node.outputs)) (ap (λ t. declared_all t node.inputs) (sym empty) ∙ first) ∙ second)
     ∙ third
 
+-- names are not declared where the outputs are not
 pub declared-two : (node : Node) (t0 t1 : Table) → t0 ≡ (λ name. None) → declared_all t0 node.inputs ≡ Some t1 → declared_all t1 node.outputs ≡ None
     → declared_all (λ name. None) (declarations node) ≡ None
 declared-two node t0 t1 empty first second =
@@ -58,6 +61,7 @@ declared-two node t0 t1 empty first second =
     ∙ ap (option_and_then (λ u. declared_all u node.locals)) (declared_all-append (λ name. None) node.inputs node.outputs
     ∙ ap (option_and_then (λ u. declared_all u node.outputs)) (ap (λ t. declared_all t node.inputs) (sym empty) ∙ first) ∙ second)
 
+-- names are not declared where the inputs are not
 pub declared-one : (node : Node) (t0 : Table) → t0 ≡ (λ name. None) → declared_all t0 node.inputs ≡ None
     → declared_all (λ name. None) (declarations node) ≡ None
 declared-one node t0 empty first =
@@ -65,6 +69,7 @@ declared-one node t0 empty first =
     ∙ ap (option_and_then (λ u. declared_all u node.locals)) (declared_all-append (λ name. None) node.inputs node.outputs
     ∙ ap (option_and_then (λ u. declared_all u node.outputs)) (ap (λ t. declared_all t node.inputs) (sym empty) ∙ first))
 
+-- the counts of a node fit
 pub counts-of : (node : Node) → 0 < length node.inputs → 0 < length node.outputs → length node.inputs + length node.outputs + length node.locals ≤ 1000 → HasFitCounts node
 counts-of node some_in some_out few = record {
   some_input = some_in;
@@ -72,6 +77,7 @@ counts-of node some_in some_out few = record {
   few_names = omega (arith, length-append (node.inputs ++ node.outputs) node.locals, length-append node.inputs node.outputs);
 }
 
+-- a node whose counts do not fit is not thin
 pub no-counts : (node : Node) → (length node.inputs ≡ 0) ⊎ (length node.outputs ≡ 0) ⊎ (1000 < length node.inputs + length node.outputs + length node.locals)
     → (equations : List Instance) → IsThinNode node equations → ⊥
 no-counts node cases equations thin = elim cases [
@@ -84,6 +90,7 @@ no-counts node cases equations thin = elim cases [
     empty [] none = refl
     empty (d ∷ ds) none = absurd (omega (arith, none))
 
+-- a node whose names cannot be declared is not thin
 pub not-declared : (node : Node) → declared_all (λ name. None) (declarations node) ≡ None → (equations : List Instance) → IsThinNode node equations → ⊥
 not-declared node none equations thin = declared-refused (λ name. None) (declarations node) none thin.single_bits thin.names_differ (λ name among. refl)
 
@@ -105,6 +112,7 @@ start-held node table start name register at =
           ])
     ]
 
+-- the first equation can be taken from the start
 pub start-ready : (node : Node) (table : Table) (held : Held) → HasFitCounts node → IsStart node table → held ≡ first_held (length node.inputs) → IsReady table held 0
 start-ready node table held counts start is = subst (λ h. IsReady table h 0) (sym is) (record {
   all_held = start-held node table start;
@@ -113,12 +121,15 @@ start-ready node table held counts start is = subst (λ h. IsReady table h 0) (s
   few = omega arith;
 })
 
+-- the inputs are few
 pub few-inputs : (node : Node) → HasFitCounts node → length node.inputs ≤ 1000
 few-inputs node counts = omega (arith, counts.few_names, length-append (node.inputs ++ node.outputs) node.locals, length-append node.inputs node.outputs)
 
+-- the outputs are few
 pub few-outputs : (node : Node) → HasFitCounts node → length node.outputs ≤ 1000
 few-outputs node counts = omega (arith, counts.few_names, length-append (node.inputs ++ node.outputs) node.locals, length-append node.inputs node.outputs)
 
+-- a node whose equations cannot be taken is not thin
 pub not-taken : (node : Node) (table : Table) (held : Held) → IsStart node table → held ≡ first_held (length node.inputs)
     → taken_of (record { held = slots_of table held; used = 0 }) (unrolled_items node.items) ≡ None
     → (equations : List Instance) → IsThinNode node equations → ⊥
@@ -184,6 +195,7 @@ undefined-refused node now held end c among none equations thin =
     (ap (taken_all (record { held = slots_of end.start (first_held (length node.inputs)); used = 0 })) (sym same) ∙ all.are_taken) c among in
     none_some (sym none ∙ defined.1)
 
+-- a node with an output that has no register is not thin
 pub no-output : (node : Node) (now : Table) (held : Held) → IsAtEnd node now held → registers_of now node.outputs ≡ None
     → (equations : List Instance) → IsThinNode node equations → ⊥
 no-output node now held end none equations thin =
@@ -192,6 +204,7 @@ no-output node now held end none equations thin =
     (ap (λ l. is_among l at.0) (declared_cells-append node.outputs node.locals) ∙ among-append (declared_cells node.outputs) (declared_cells node.locals) at.0
     ∙ ap (λ b. b || is_among (declared_cells node.locals) at.0) at.1) at.2 equations thin
 
+-- a node with a local that has no register is not thin
 pub no-local : (node : Node) (now : Table) (held : Held) → IsAtEnd node now held → registers_of now node.locals ≡ None
     → (equations : List Instance) → IsThinNode node equations → ⊥
 no-local node now held end none equations thin =
@@ -212,9 +225,11 @@ pub record HasCore (node : Node) (now : Table) (held : Held) (outputs : List Reg
   pub small : weight (core_of_terms held.width held.inputs (map (term_of held) outputs)) ≤ 131072
   pub narrow : columns (core_of_terms held.width held.inputs (map (term_of held) outputs)) ≤ 32768
 
+-- a list of some length is not empty
 pub some-decl : (ds : List Decl) → 0 < length ds → ds ≢ []
 some-decl ds some is = absurd (omega (arith, ap length is, some))
 
+-- a node all of whose names have registers has a core, within the limits
 pub has-core : (node : Node) (now : Table) (held : Held) → IsAtEnd node now held → (outputs locals : List Reg)
     → registers_of now node.outputs ≡ Some outputs → registers_of now node.locals ≡ Some locals → HasCore node now held outputs
 has-core node now held end outputs locals has_outputs has_locals =
@@ -234,12 +249,14 @@ has-core node now held end outputs locals has_outputs has_locals =
       narrow = subst (λ c. columns c ≤ 32768) same limits.1;
     }
 
+-- there are as many registers as declared names
 pub length-registers : (table : Table) (ds : List Decl) (rs : List Reg) → registers_of table ds ≡ Some rs → length rs ≡ length ds
 length-registers table [] rs is = ap length (sym (some_is [] rs is))
 length-registers table (d ∷ ds) rs is =
     let parts = both-parts (λ v vs. v ∷ vs) (option_flatten (table d.name.text)) (registers_of table ds) rs is in
     ap length (sym parts.4) ∙ ap suc (length-registers table ds parts.1 parts.3)
 
+-- registers of names are held by the builder
 pub registers-held : (table : Table) (held : Held) → AllHeld table held → (ds : List Decl) (rs : List Reg) → registers_of table ds ≡ Some rs
     → (k : ℕ) (other : Reg) → k < length rs → Holds held (slice_index_or rs k other)
 registers-held table held all ds [] is k other below = absurd (omega (arith, below))

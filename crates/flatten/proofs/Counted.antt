@@ -137,6 +137,7 @@ walk-covered made F covers (c ∷ outputs) ts is x among =
       | inr later ↦ walk-covered made F covers outputs parts.1 parts.3 x later
     ]
 
+-- the subterms of outputs are at most the signs of the equations
 pub subterms-few : (before : Progress) (instances : List Instance) (last : Progress) → taken_all before instances ≡ Some last → AllSingle instances
     → ((c : Cell) (v : Term) → held_by before.held c ≡ Some v → (j : ℕ) × (v ≡ Input j))
     → (outputs : List Cell) (ts : List Term) → whole (map (held_by last.held) outputs) ≡ Some ts

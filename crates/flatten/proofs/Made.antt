@@ -21,6 +21,7 @@ join_by And a b = conjunction a b
 join_by Xor a b = exclusive_or a b
 join_by Or a b = conjunction a b
 
+-- a chain is unrolled link by link
 pub unrolled-chain : (op : BitOp) (a : Expr) (links : List Link) → op ≢ Or
     → unrolled_expression (e.Chain op a links) ≡ chained (join_by op) (unrolled_expression a) (unrolled_links links)
 unrolled-chain And a links chains = unrolled-and a links
@@ -54,6 +55,7 @@ made_by_sign join f sign E before middle end after a b v w left right e fits =
       few = fits;
     }
 
+-- two expressions that were met make a third by a sign
 pub made-joined : (op : BitOp) → op ≢ Or
     → (E : Environment Term) (before middle end after : ℕ) (a b : Option Expression) (v w : Term)
     → IsMade E before a v middle → IsMade E middle b w end → after ≡ end + 1 → after ≤ 10000
@@ -97,16 +99,19 @@ refused_sign_by join f sign E before middle end (Some x) (Some y) v w left right
     let too : y ≡ right.expression = cc right.is in
     inr (omega (arith, sign.0 x y, left.count, right.count, ap signs same, ap signs too, full))
 
+-- a sign is refused where its right operand is
 pub refused-right : (op : BitOp) → op ≢ Or
     → (E : Environment Term) (before middle : ℕ) (a b : Option Expression) (v : Term)
     → IsMade E before a v middle → IsRefused E middle b → IsRefused E before (both (join_by op) a b)
 refused-right op chains = refused_right_by (join_by op) (joined_term op) (is_sign op chains)
 
+-- a sign that is one too many is refused
 pub refused-sign : (op : BitOp) → op ≢ Or
     → (E : Environment Term) (before middle end : ℕ) (a b : Option Expression) (v w : Term)
     → IsMade E before a v middle → IsMade E middle b w end → 10000 ≤ end → IsRefused E before (both (join_by op) a b)
 refused-sign op chains = refused_sign_by (join_by op) (joined_term op) (is_sign op chains)
 
+-- a chain is refused where its first operand is
 pub refused-chained : (op : BitOp) → op ≢ Or
     → (E : Environment Term) (before : ℕ) (a : Option Expression) (links : List (Option Expression))
     → IsRefused E before a → IsRefused E before (chained (join_by op) a links)

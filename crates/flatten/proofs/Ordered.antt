@@ -16,12 +16,14 @@ use Rattle.flatten.specs.State.Walk.{Progress, waits, extended, held_by, taken_b
 abbrev pub Below : {V : Type 0} → Environment V → Environment V → Type 0
 Below {V} a b = (cell : Cell) (v : V) → a cell ≡ Some v → b cell ≡ Some v
 
+-- what two parts make is made of both
 pub both-parts : {A B C : Type 0} (join : A → B → C) (a : Option A) (b : Option B) (c : C) → both join a b ≡ Some c
     → (x : A) × (y : B) × (a ≡ Some x) × (b ≡ Some y) × (join x y ≡ c)
 both-parts join (Some x) (Some y) c is = (x, y, refl, refl, cc is)
 both-parts join (Some x) None c is = absurd (cc is)
 both-parts join None b c is = absurd (cc is)
 
+-- what a part makes is made of it
 pub map-part : {A B : Type 0} (f : A → B) (a : Option A) (c : B) → option_map f a ≡ Some c → (x : A) × (a ≡ Some x) × (f x ≡ c)
 map-part f (Some x) c is = (x, refl, cc is)
 map-part f None c is = absurd (cc is)
@@ -67,6 +69,7 @@ chosen : {A : Type 0} (b : Bool) (x y : A) → (if b then Some x else None) ≡ 
 chosen true x y is = (refl, cc is)
 chosen false x y is = absurd (cc is)
 
+-- optional values that are there are equal where they are the same
 pub some_is : {A : Type 0} (a b : A) → Some a ≡ Some b → a ≡ b
 some_is a b is = cc is
 
@@ -74,6 +77,7 @@ both-true : (a b : Bool) → a && b ≡ true → (a ≡ true) × (b ≡ true)
 both-true true b is = (refl, is)
 both-true false b is = absurd (cc is)
 
+-- a cell that waits is declared and has no term
 pub waits-is : (o : Option (Option Term)) → waits o ≡ true → o ≡ Some None
 waits-is None is = absurd (cc is)
 waits-is (Some None) is = refl
@@ -101,6 +105,7 @@ taken_by-is before (cell ∷ []) right (Some (term ∷ [])) after at is =
 taken_by-is before (cell ∷ []) right (Some (term ∷ u ∷ us)) after at is = absurd (cc is)
 taken_by-is before (cell ∷ c ∷ cs) right value after at is = absurd (cc is)
 
+-- what taking an equation comes to
 pub taken-is : (before : Progress) (instance : Instance) (after : Progress) → taken before instance ≡ Some after → IsTaken before instance after
 taken-is before instance after is =
     taken_by-is before instance.left instance.right (value_of (term_operators 1) (held_by before.held) instance.right) after refl is
@@ -117,6 +122,7 @@ taken_all-cons before instance instances last is =
     let parts = chain-parts (λ after. taken_all after instances) (taken before instance) last is in
     (parts.0, taken-is before instance parts.0 parts.1, parts.2)
 
+-- cells that the test takes for one are one
 pub same_cell-is : (a b : Cell) → same_cell a b ≡ true → a ≡ b
 same_cell-is a b same =
     let tests = both-true (bytes_eq a.name b.name) (a.element == b.element) same in
@@ -124,10 +130,12 @@ same_cell-is a b same =
     let elements : a.element ≡ b.element = eqb-true a.element b.element tests.1 in
     ap (λ n. record { name = n; element = a.element }) names ∙ ap (λ e. record { name = b.name; element = e }) elements
 
+-- the test takes a cell for itself
 pub same_cell-itself : (a : Cell) → same_cell a a ≡ true
 same_cell-itself a =
     and_from (bytes_eq a.name a.name) (a.element == a.element) ((bytes_eq-Decides a.name a.name).1 refl) (eq-eqb a.element a.element refl)
 
+-- cells that the test tells apart differ
 pub different : (a b : Cell) → same_cell a b ≡ false → a ≡ b → ⊥
 different a b unlike is = true≢false (sym (same_cell-itself b) ∙ ap (λ x. same_cell x b) (sym is) ∙ unlike)
 
@@ -147,20 +155,25 @@ extended-below held cell term waited = λ c v is. extended_at held cell term wai
 extended-same : (held : Cell → Option (Option Term)) (cell : Cell) (term : Term) → held_by (extended held cell term) cell ≡ Some term
 extended-same held cell term = ap (λ b. option_flatten (if b then Some (Some term) else held cell)) (same_cell-itself cell)
 
+-- an environment is within itself
 pub Below-itself : {V : Type 0} (a : Environment V) → Below a a
 Below-itself a = λ cell v is. is
 
+-- what is within an environment is within what that is within
 pub Below-twice : {V : Type 0} (a b c : Environment V) → Below a b → Below b c → Below a c
 Below-twice a b c first second = λ cell v is. second cell v (first cell v is)
 
+-- what is defined stays defined when an equation is taken
 pub taken-below : (before : Progress) (instance : Instance) (after : Progress) → IsTaken before instance after → Below (held_by before.held) (held_by after.held)
 taken-below before instance after step =
     subst (λ (r : Progress). Below (held_by before.held) (held_by r.held)) (sym step.is) (extended-below before.held step.cell step.term step.waited)
 
+-- an equation that is taken defines its cell
 pub taken-defines : (before : Progress) (instance : Instance) (after : Progress) (step : IsTaken before instance after) → held_by after.held step.cell ≡ Some step.term
 taken-defines before instance after step =
     ap (λ p. held_by p.held step.cell) step.is ∙ extended-same before.held step.cell step.term
 
+-- what is defined stays defined when equations are taken
 pub taken_all-below : (before : Progress) (instances : List Instance) (last : Progress) → taken_all before instances ≡ Some last → Below (held_by before.held) (held_by last.held)
 taken_all-below before [] last is = subst (λ (r : Progress). Below (held_by before.held) (held_by r.held)) (some_is before last is) (Below-itself (held_by before.held))
 taken_all-below before (instance ∷ instances) last is =

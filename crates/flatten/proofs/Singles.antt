@@ -15,6 +15,7 @@ use Rattle.flatten.proofs.Trees.{level, unrolled-layer}
 use Rattle.flatten.proofs.Ordered.{both-parts}
 use Rattle.flatten.proofs.Thinness.{IsSingle, AllSingle}
 
+-- an expression, where there is one, reads single cells
 abbrev pub AreSingle : Option Expression → Type 0
 AreSingle None = Unit {0}
 AreSingle (Some x) = IsSingle x
@@ -71,6 +72,7 @@ level-single : {B C : Type 0} (f : B → Expr) (g : C → Link) → ((b : B) →
 level-single {B} {C} f g all links y =
     subst AreSingle (sym (unrolled-layer (map-Expr B C Expr Link f g y) (roll-Expr (map-Expr B C Expr Link f g y)) refl)) (at_level f g all links y)
 
+-- expressions over names read single cells
 pub unrolled-single : (a : Expr) → AreSingle (unrolled_expression a)
 unrolled-single a =
     ind-Expr (λ e. AreSingle (unrolled_expression e)) (λ l. AreSingle (unrolled_expression l.operand))
@@ -99,6 +101,7 @@ AllSingle-append : (a b : List Instance) → AllSingle a → AllSingle b → All
 AllSingle-append [] b left right = right
 AllSingle-append (i ∷ a) b left right = (left.0, AllSingle-append a b left.1 right)
 
+-- equations over names read single cells
 pub items-single : (items : List Item) (instances : List Instance) → unrolled_items items ≡ Some instances → AllSingle instances
 items-single [] instances is = subst AllSingle (some_is [] instances is) tt
   where

@@ -3,11 +3,10 @@ use Rattle.std.proofs.Common.{◌≡◌, refl, sym, ◌∙◌, ap, subst, ℕ, s
 use Rattle.std.specs.Prelude.{if◌then◌else◌}
 use Rattle.std.proofs.lemmas.Bool.{eqb-true, eq-eqb, and_from, true≢false}
 use Rattle.usuba0.specs.declared.Reg.{Reg}
-use Rattle.usuba0.specs.declared.Gate.{Gate}
-use Rattle.usuba0.specs.declared.Gate.TheVariants as gate
 use Rattle.usuba0.specs.Term.{Term, Input, Const, Xor, Not, Mask, And, Shl, Shr, Rotl, Refresh, constant, folded_one, folded_two, and_by, not_term, and_term, xor_term}
 use Rattle.usuba0.specs.CoreOfTerms.{postorder, walk, same_term, is_among, first_places, subterms, equations_of, core_of_terms}
-use Rattle.usuba0.specs.Circuit.{products_of, refreshes_of, weight, columns}
+use Rattle.usuba0.specs.Circuit.{weight, columns}
+use Rattle.usuba0.proofs.CircuitLemmas.{counts_le}
 
 and-parts : (a b : Bool) → a && b ≡ true → (a ≡ true) × (b ≡ true)
 and-parts true b is = (refl, is)
@@ -99,6 +98,7 @@ among-removed t x (u ∷ us) among =
           ])
     ]
 
+-- a term of one of two lists is among both together
 pub among-append : (x : Term) (a b : List Term) → (is_among x a ≡ true) ⊎ (is_among x b ≡ true) → is_among x (a ++ b) ≡ true
 among-append x [] b (inl here) = absurd (true≢false (sym here))
 among-append x [] b (inr there) = there
@@ -113,6 +113,7 @@ among-append x (u ∷ a) b which =
           ])
     ]
 
+-- a term among two lists together is in one of them
 pub among-parts : (x : Term) (a b : List Term) → is_among x (a ++ b) ≡ true → (is_among x a ≡ true) ⊎ (is_among x b ≡ true)
 among-parts x [] b among = inr among
 among-parts x (u ∷ a) b among =
@@ -162,31 +163,20 @@ equations-few reg [] = omega arith
 equations-few reg (Input i ∷ ts) = omega (arith, equations-few reg ts)
 equations-few reg (t ∷ ts) = omega (arith, equations-few reg ts)
 
-products-few : (gs : List Gate) → products_of gs + refreshes_of gs ≤ length gs
-products-few [] = omega arith
-products-few (gate.Const c ∷ gs) = omega (arith, products-few gs)
-products-few (gate.Xor a b ∷ gs) = omega (arith, products-few gs)
-products-few (gate.Not a ∷ gs) = omega (arith, products-few gs)
-products-few (gate.Mask c a ∷ gs) = omega (arith, products-few gs)
-products-few (gate.And a b ∷ gs) = omega (arith, products-few gs)
-products-few (gate.Shl k a ∷ gs) = omega (arith, products-few gs)
-products-few (gate.Shr k a ∷ gs) = omega (arith, products-few gs)
-products-few (gate.Rotl k a ∷ gs) = omega (arith, products-few gs)
-products-few (gate.Refresh a ∷ gs) = omega (arith, products-few gs)
-
 -- a core of single bits of few inputs and subterms is inside both limits
 pub within-limits : (n : ℕ) (outputs : List Term) → n ≤ 1000 → length (subterms outputs) ≤ 10000
     → (weight (core_of_terms 1 n outputs) ≤ 131072) × (columns (core_of_terms 1 n outputs) ≤ 32768)
 within-limits n outputs few small =
     let core = core_of_terms 1 n outputs in
     let e : length core.equations ≤ 10000 = omega (arith, equations-few (Rattle.usuba0.specs.CoreOfTerms.register_of n (subterms outputs)) (subterms outputs), small) in
-    let p = products-few core.equations in
+    let p = counts_le core.equations in
     (omega (arith, e, p), omega (arith, e, p, few))
 
 -- every part of a term is in the list
 abbrev pub Covers : List Term → Term → Type 0
 Covers made t = (x : Term) → is_among x (postorder t) ≡ true → is_among x made ≡ true
 
+-- more terms cover what fewer do
 pub covers-more : (made more : List Term) (t : Term) → Covers made t → Covers (made ++ more) t
 covers-more made more t covers = λ x among. among-append x made more (inl (covers x among))
 
@@ -200,6 +190,7 @@ itself x t among = elim (cases (same_term x t)) as (λ s. same_term x t ≡ true
 abbrev pub IsMadeOf : Term → List Term → Type 0
 IsMadeOf t parts = (x : Term) → is_among x (postorder t) ≡ true → (is_among x parts ≡ true) ⊎ (same_term x t ≡ true)
 
+-- a complement adds one term at most
 pub not-made : (a : Term) → IsMadeOf (not_term 1 a) (postorder a)
 not-made a = folded (constant a)
   where
@@ -224,6 +215,7 @@ two-made a b t within x among =
       | inr this ↦ inr (itself x t this)
     ]
 
+-- an exclusive-or adds one term at most
 pub xor-made : (a b : Term) → IsMadeOf (xor_term a b) (postorder a ++ postorder b)
 xor-made a b = folded (constant a) (constant b)
   where
@@ -232,6 +224,7 @@ xor-made a b = folded (constant a) (constant b)
     folded (Some c) None x among = two-made a b (Xor a b) (λ y is. is) x among
     folded (Some c) (Some d) x among = inr (itself x (Const _) among)
 
+-- a conjunction adds one term at most
 pub and-made : (a b : Term) → IsMadeOf (and_term a b) (postorder a ++ postorder b)
 and-made a b = folded (constant a) (constant b)
   where

@@ -25,6 +25,7 @@ pub length-input_terms : (n : ℕ) → length (input_terms n) ≡ n
 length-input_terms zero = refl
 length-input_terms (suc n) = omega (arith, length-append (input_terms n) (Input n ∷ []), length-input_terms n)
 
+-- the term at the number of an input is that input
 pub input_term : (n j : ℕ) → j < n → get_or (input_terms n) j (Input 0) ≡ Input j
 input_term zero j below = absurd (omega arith)
 input_term (suc n) j below =
@@ -54,12 +55,14 @@ front (x ∷ a) b differ =
     or-none true q is = absurd (true≢false is)
     or-none false q is = refl
 
+-- the inputs of a node differ where all its names do
 pub inputs-differ : (node : Node) → all_differ (declared_cells (declarations node)) ≡ true → all_differ (declared_cells node.inputs) ≡ true
 inputs-differ node differ = front (declared_cells node.inputs) (declared_cells node.outputs ++ declared_cells node.locals)
     (ap all_differ (sym (declared_cells-append (node.inputs ++ node.outputs) node.locals
     ∙ ap (λ l. l ++ declared_cells node.locals) (declared_cells-append node.inputs node.outputs)
     ∙ append_assoc (declared_cells node.inputs) (declared_cells node.outputs) (declared_cells node.locals))) ∙ differ)
 
+-- a name is declared and waits, or is not declared
 pub declared-only : (node : Node) {table : Table} (start : IsStart node table) → IsDeclared (λ name. None) (declarations node) start.declared → (name : List ℕ)
     → (start.declared name ≡ None) ⊎ (start.declared name ≡ Some None)
 declared-only node start facts name =

@@ -1,6 +1,6 @@
 -- What declared and numbered names have.
 use Rattle.std.proofs.Common.{◌≡◌, refl, sym, ◌∙◌, ap, ℕ, suc, ◌+◌, ◌<◌, arith, inl, inr, Bool, true, false, not, ◌&&◌, ◌||◌, ◌==◌, List, [], ◌∷◌, ◌++◌, length, Some, None, Option}
-use Rattle.std.specs.Prelude.{◌⊎◌, is_none, if◌then◌else◌, bytes_eq}
+use Rattle.std.specs.Prelude.{is_none, if◌then◌else◌, bytes_eq}
 use Rattle.std.specs.List.{list_all}
 use Rattle.std.proofs.lemmas.Bool.{eqb-true, eq-eqb, and_from, true≢false, cases_Bool}
 use Rattle.std.proofs.lemmas.Slice.Eq.{bytes_eq-Decides}
@@ -9,13 +9,14 @@ use Rattle.usuba0.specs.declared.Reg.{Reg}
 use Rattle.usuba0.specs.Term.{Term, Input}
 use Rattle.flatten.specs.SourceCore.{numbered_inputs}
 use Rattle.flatten.proofs.Ordered.{same_cell-is}
-use Rattle.flatten.proofs.Thinness.{among-append}
+use Rattle.flatten.proofs.Thinness.{among-append, or-cases}
 use Rattle.flatten.specs.Unrolled.{Cell, declared_cells}
 use Rattle.flatten.specs.Rounds.{same_cell, given}
 use Rattle.flatten.specs.Thin.{is_among, all_differ}
 use Rattle.flatten.specs.Declarations.{declares_single_bit}
 use Rattle.flatten.specs.State.Walk.{with_name, declared_all, numbered_all}
 
+-- what each name has
 abbrev pub Table : Type 0
 Table = List ℕ → Option (Option Reg)
 
@@ -23,6 +24,7 @@ Table = List ℕ → Option (Option Reg)
 abbrev pub cell_of : List ℕ → Cell
 cell_of name = record { name = name; element = 0 }
 
+-- cells of names are one where the names are
 pub same-names : (a b : List ℕ) → same_cell (cell_of a) (cell_of b) ≡ bytes_eq a b
 same-names a b = and-true (bytes_eq a b)
   where
@@ -47,10 +49,12 @@ if-true b x y is = ap (λ c. if c then x else y) is
 if-false : {A : Type 0} (b : Bool) (x y : A) → b ≡ false → (if b then x else y) ≡ y
 if-false b x y is = ap (λ c. if c then x else y) is
 
+-- what is not true is false
 pub not-true-is : (b : Bool) → not b ≡ true → b ≡ false
 not-true-is true is = absurd (true≢false (sym is))
 not-true-is false is = refl
 
+-- both hold where both together do
 pub and-parts : (a b : Bool) → a && b ≡ true → (a ≡ true) × (b ≡ true)
 and-parts true b is = (refl, is)
 and-parts false b is = absurd (true≢false (sym is))
@@ -68,10 +72,6 @@ chosen false x y is = absurd (cc is)
 
 some_none : {A : Type 0} {x : A} → Some x ≡ None → ⊥
 some_none e = cc e
-
-or-cases : (a b : Bool) → (a || b) ≡ true → (a ≡ true) ⊎ (b ≡ true)
-or-cases true b is = inl refl
-or-cases false b is = inr is
 
 or-left : (a b : Bool) → (a || b) ≡ true → b ≡ false → a ≡ true
 or-left true b is no_b = refl
@@ -131,6 +131,7 @@ pub record IsDeclared (before : Table) (ds : List Decl) (after : Table) : Type 0
   pub inside : (name : List ℕ) → is_among (declared_cells ds) (cell_of name) ≡ true → after name ≡ Some None
   pub outside : (name : List ℕ) → is_among (declared_cells ds) (cell_of name) ≡ false → after name ≡ before name
 
+-- what declaring names comes to
 pub declared-is : (before : Table) (ds : List Decl) (after : Table) → declared_all before ds ≡ Some after → IsDeclared before ds after
 declared-is before [] after is = record {
   single = refl;
@@ -184,12 +185,14 @@ numbered-outside before k (d ∷ ds) name out =
     ∙ if-false (bytes_eq d.name.text name) (Some (Some (record { 0 = k }))) (before name)
     (swapped d.name.text name ∙ sym (same-names name d.name.text) ∙ parts.0)
 
+-- the place of a numbered name
 pub record IsNumbered (table : Table) (k : ℕ) (ds : List Decl) (name : List ℕ) : Type 0 where
   pub place : ℕ
   pub has : table name ≡ Some (Some (record { 0 = place }))
   pub given_as : given (declared_cells ds) (numbered_inputs k (declared_cells ds)) (cell_of name) ≡ Some (Input place)
   pub within : place < k + length ds
 
+-- a numbered name has a place
 pub numbered-inside : (before : Table) (k : ℕ) (ds : List Decl) → all_differ (declared_cells ds) ≡ true → (name : List ℕ)
     → is_among (declared_cells ds) (cell_of name) ≡ true → IsNumbered (numbered_all before k ds) k ds name
 numbered-inside before k [] differ name among = absurd (true≢false (sym among))
@@ -259,6 +262,7 @@ declared-element (d ∷ ds) c out =
     none_or true b = refl
     none_or false b = refl
 
+-- the cells of two lists of declarations, one after the other
 pub declared_cells-append : (a b : List Decl) → declared_cells (a ++ b) ≡ declared_cells a ++ declared_cells b
 declared_cells-append [] b = refl
 declared_cells-append (d ∷ a) b = ap (λ l. cell_of d.name.text ∷ l) (declared_cells-append a b)

@@ -21,10 +21,12 @@ use Rattle.flatten.specs.Declarations.{declares_single_bit}
 use Rattle.flatten.specs.State.Walk.{with_name, declared_all, registers_of, slots_of, held_by, AllHeld, IsReady, IsMade, Extends, Progress, waits, extended, taken_by, taken, taken_all, taken_of, most_signs}
 use Rattle.flatten.proofs.Extends.{slots-extends, Holds-extends}
 
+-- what follows from what holds of an answer holds of it
 pub on_ok : {T E : Type 0} {P Q : Type 0} (r : Result T E) → (P → Q) → OnOk r P → OnOk r Q
 on_ok (Ok v) f p = f p
 on_ok (Err e) f p = p
 
+-- what is left of a list begins with the next element
 pub drop-next : {A : Type 0} (xs : List A) (i : ℕ) (item : A) → i < length xs → item ≡ get_or xs i item → drop i xs ≡ item ∷ drop (i + 1) xs
 drop-next xs i item within is =
     drop-cons xs i item within ∙ ap (λ x. x ∷ drop (suc i) xs) (sym is) ∙ ap (λ k. item ∷ drop k xs) (sym (add-one i))
@@ -36,6 +38,7 @@ declared-step before d ds single new =
     ap (λ b. if b then declared_all (with_name before d.name.text None) ds else None)
     (and_from (declares_single_bit d) (is_none (before d.name.text)) single (ap is_none new))
 
+-- a name that cannot be declared ends the declaring
 pub declared-stop : (before : List ℕ → Option (Option Reg)) (d : Decl) (ds : List Decl) → (declares_single_bit d && is_none (before d.name.text)) ≡ false
     → declared_all before (d ∷ ds) ≡ None
 declared-stop before d ds not_new = ap (λ b. if b then declared_all (with_name before d.name.text None) ds else None) not_new
@@ -44,6 +47,7 @@ declared-stop before d ds not_new = ap (λ b. if b then declared_all (with_name 
 abbrev pub found_of : (List ℕ → Option (Option Reg)) → Decl → Option Reg
 found_of table d = option_flatten (table d.name.text)
 
+-- one more register was found
 pub registers-step : (table : List ℕ → Option (Option Reg)) (found : List Reg) (r : Reg) (d : Decl) (ds : List Decl) → option_flatten (table d.name.text) ≡ Some r
     → option_map (λ rest. found ++ rest) (registers_of table (d ∷ ds)) ≡ option_map (λ rest. (found ++ r ∷ []) ++ rest) (registers_of table ds)
 registers-step table found r d ds is =
@@ -53,6 +57,7 @@ registers-step table found r d ds is =
     moved None = refl
     moved (Some rest) = ap (λ l. Some l) (sym (append_assoc found (r ∷ []) rest))
 
+-- a name without a register ends the finding
 pub registers-stop : (table : List ℕ → Option (Option Reg)) (found : List Reg) (d : Decl) (ds : List Decl) → option_flatten (table d.name.text) ≡ None
     → option_map (λ rest. found ++ rest) (registers_of table (d ∷ ds)) ≡ None
 registers-stop table found d ds is = ap (λ o. option_map (λ rest. found ++ rest) (both (λ v vs. v ∷ vs) o (registers_of table ds))) is
@@ -85,6 +90,7 @@ extended-table table name register before now held grows = fun_ext (λ cell.
     at cell true false b is too = refl
     at cell false false b is too = refl
 
+-- an equation whose right side was met is taken
 pub equation-taken : (t0 t1 : List ℕ → Option (Option Reg)) (h0 h1 : Held) (s0 s1 : ℕ) (equation : Equation) (name : List ℕ) (register : Reg)
     → AllHeld t0 h0 → Extends h0 h1 → cells_of_spots equation.left ≡ Some (cells_of name)
     → IsMade (held_by (slots_of t0 h0)) s0 (unrolled_expression equation.right) (term_of h1 register) s1
@@ -110,6 +116,7 @@ equation-taken t0 t1 h0 h1 s0 s1 equation name register held grows left made wai
     ∙ ap (λ s. Some (record { held = s; used = s0 + signs made.expression })) same
     ∙ ap (λ n. Some (record { held = slots_of t1 h1; used = n })) (sym made.count)
 
+-- after an equation the next can be taken
 pub equation-ready : (t0 t1 : List ℕ → Option (Option Reg)) (h0 h1 : Held) (s0 s1 : ℕ) (name : List ℕ) (register : Reg)
     → IsReady t0 h0 s0 → Extends h0 h1 → Holds h1 register → length h1.terms ≤ 1000 + s1 → s1 ≤ 10000
     → t1 ≡ with_name t0 name (Some register) → IsReady t1 h1 s1
@@ -144,10 +151,12 @@ taken-both p (Some a) None o is = none-of o ∙ refl
     none-of (Some q) = refl
 taken-both p (Some a) (Some b) o is = taken_all-append p a b ∙ ap (option_and_then (λ q. taken_all q b)) is
 
+-- one more item is taken
 pub item-step : (p q : Progress) (item : Item) (rest : List Item) → taken_of p (unrolled_item item) ≡ Some q
     → taken_of p (unrolled_items (item ∷ rest)) ≡ taken_of q (unrolled_items rest)
 item-step p q item rest is = taken-both p (unrolled_item item) (unrolled_items rest) (Some q) is
 
+-- an item that cannot be taken ends the taking
 pub item-stop : (p : Progress) (item : Item) (rest : List Item) → taken_of p (unrolled_item item) ≡ None
     → taken_of p (unrolled_items (item ∷ rest)) ≡ None
 item-stop p item rest is = taken-both p (unrolled_item item) (unrolled_items rest) None is
@@ -172,20 +181,24 @@ two_cells a b more cell is = by (picked-one a.name.text a.picks) (picked-one b.n
         (ap (λ o. both (λ x y. x ++ y) o (both (λ x y. x ++ y) (option_map (λ c. c ∷ []) second.0) r)) (sym first.1)
         ∙ ap (λ o. both (λ x y. x ++ y) (cells_of_spot a) (both (λ x y. x ++ y) o r)) (sym second.1) ∙ e)
 
+-- a left side without a spot is none of one cell
 pub no_spot : (left : List Spot) (cell : Cell) → length left < 1 → cells_of_spots left ≡ Some (cell ∷ []) → ⊥
 no_spot [] cell few is = cc is
 no_spot (a ∷ more) cell few is = absurd (omega arith)
 
+-- a left side of two spots or more is none of one cell
 pub many_spots : (left : List Spot) (cell : Cell) → 2 ≤ length left → cells_of_spots left ≡ Some (cell ∷ []) → ⊥
 many_spots [] cell many is = absurd (omega arith)
 many_spots (a ∷ []) cell many is = absurd (omega arith)
 many_spots (a ∷ b ∷ more) cell many is = two_cells a b more cell is
 
+-- a left side of one cell has one spot
 pub not_one_spot : (left : List Spot) (cell : Cell) → length left ≢ 1 → cells_of_spots left ≢ Some (cell ∷ [])
 not_one_spot [] cell unlike is = cc is
 not_one_spot (a ∷ []) cell unlike is = unlike refl
 not_one_spot (a ∷ b ∷ more) cell unlike is = two_cells a b more cell is
 
+-- a left side of one spot without brackets is the cell of its name
 pub one_spot : (left : List Spot) (spot : Spot) → length left ≡ 1 → spot ≡ get_or left 0 spot → spot.picks ≡ [] → cells_of_spots left ≡ Some (cells_of spot.name.text)
 one_spot [] spot one is none = absurd (omega arith)
 one_spot (a ∷ []) spot one is none =
@@ -197,6 +210,7 @@ some_picks : (name : List ℕ) (picks : List Pick) (cell : Cell) → picks ≢ [
 some_picks name [] cell some is = some refl
 some_picks name (p ∷ ps) cell some is = cc is
 
+-- a left side with brackets is none of one cell
 pub picked_spot : (left : List Spot) (spot : Spot) (cell : Cell) → length left ≡ 1 → spot ≡ get_or left 0 spot → spot.picks ≢ [] → cells_of_spots left ≢ Some (cell ∷ [])
 picked_spot [] spot cell one is some = absurd (omega arith)
 picked_spot (a ∷ []) spot cell one is some = λ e.

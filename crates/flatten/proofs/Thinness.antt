@@ -12,6 +12,7 @@ use Rattle.flatten.specs.Thin.{is_among, cells_read, signs, left_sides, are_sing
 use Rattle.flatten.specs.State.Walk.{Progress, waits, extended, held_by, taken_by, taken, taken_all, most_signs}
 use Rattle.flatten.proofs.Ordered.{IsTaken, taken_all-cons, taken_all-below, taken-below, taken-defines, same_cell-is, same_cell-itself, waits-is}
 
+-- 1 for a cell that waits, else 0
 abbrev pub waiting : Option (Option Term) → ℕ
 waiting o = if waits o then 1 else 0
 
@@ -22,6 +23,7 @@ and-parts : (a b : Bool) → a && b ≡ true → (a ≡ true) × (b ≡ true)
 and-parts true b is = (refl, is)
 and-parts false b is = absurd (true≢false (sym is))
 
+-- what is tested holds or not
 pub cases : (b : Bool) → (b ≡ true) ⊎ (b ≡ false)
 cases true = inl refl
 cases false = inr refl
@@ -64,6 +66,7 @@ singly before (instance ∷ instances) last is =
     let parts = taken_all-cons before instance instances last is in
     and_from (length instance.left == 1) (are_single instances) (ap (λ l. length l == 1) parts.1.left) (singly parts.0 instances last parts.2)
 
+-- the signs of the equations that were taken were counted
 pub signs-counted : (before : Progress) (instances : List Instance) (last : Progress) → taken_all before instances ≡ Some last
     → (before.used + all_signs instances ≡ last.used) × (before.used ≤ 10000 → last.used ≤ 10000)
 signs-counted before [] last is =
@@ -144,6 +147,7 @@ knows-more before instance after step known knows c v is =
           or-left (is_among known c) (is_among instance.left c) (knows c v before_is))
     ])
 
+-- equations that were taken stand in an order in which they can be taken
 pub ordered : (before : Progress) (instances : List Instance) (last : Progress) → taken_all before instances ≡ Some last
     → (known : List Cell) → ((c : Cell) (v : Term) → held_by before.held c ≡ Some v → is_among known c ≡ true)
     → are_in_order known instances ≡ true
@@ -161,6 +165,7 @@ IsSingle (complement a) = IsSingle a
 IsSingle (conjunction a b) = IsSingle a × IsSingle b
 IsSingle (exclusive_or a b) = IsSingle a × IsSingle b
 
+-- each right side reads single cells
 abbrev pub AllSingle : List Instance → Type 0
 AllSingle [] = Unit {0}
 AllSingle (equation ∷ equations) = IsSingle equation.right × AllSingle equations
@@ -232,7 +237,8 @@ step-taken before instance cell term left value waited few =
     ∙ ap (λ b. if b then Some (record { held = extended before.held cell term; used = before.used + signs instance.right }) else None)
     (and_from (nat_le (before.used + signs instance.right) most_signs) (waits (before.held cell)) (le-leb (before.used + signs instance.right) most_signs few) waited)
 
-or-cases : (a b : Bool) → (a || b) ≡ true → (a ≡ true) ⊎ (b ≡ true)
+-- one of two holds where either does
+pub or-cases : (a b : Bool) → (a || b) ≡ true → (a ≡ true) ⊎ (b ≡ true)
 or-cases true b is = inl refl
 or-cases false b is = inr is
 
@@ -266,6 +272,7 @@ fewer before instance after step instances c counts lefts =
           omega (arith, here, kept, counts))
     ]
 
+-- equations in such an order, each of whose cells waits, are taken
 pub complete : (instances : List Instance) (known : List Cell) (before : Progress)
     → are_single instances ≡ true → are_in_order known instances ≡ true → AllSingle instances
     → ((c : Cell) → is_among known c ≡ true → (v : Term) × (held_by before.held c ≡ Some v))

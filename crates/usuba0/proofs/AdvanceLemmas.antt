@@ -16,6 +16,7 @@ use Rattle.usuba0.proofs.KeepLemmas.{head_term}
 use Rattle.usuba0.proofs.WalkLemmas.{first_places-there, first_places-append, walk-append}
 use Rattle.usuba0.proofs.WalkSteps.{terms_in-push, pending_walk-push, placed_parts, AreOperands-map, operands_below, walk_operand, walk_after, end_after, fewer}
 
+-- a list that is not empty is its front and its last
 pub split_last : (pend : List ℕ) (k : ℕ) → length pend ≡ suc k → pend ≡ take k pend ++ get_or pend k 0 ∷ []
 split_last pend k e =
     let one : k + 1 ≡ suc k = omega arith in
@@ -259,6 +260,7 @@ module _ (w n : ℕ) (heads : List Head) (places order pend : List ℕ) (many k 
 
 -- ---- the first and the last step
 
+-- a walk is under way where one term waits alone
 pub start_under_way : (w n : ℕ) (heads : List Head) (places order pend : List ℕ) (term : ℕ) → IsBuilder w n heads → IsWalk w n heads places order → term < n + length heads
     → (HasPlace places (record { 0 = term }) → ⊥) → pend ≡ term ∷ [] → IsUnderWay w n heads places order pend
 start_under_way w n heads places order pend term builder walk h open_place e =

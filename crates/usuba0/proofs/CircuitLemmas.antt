@@ -33,6 +33,7 @@ pub run_step : (w B : ℕ) (words : List ℕ) (gs : List Gate) (i : ℕ) (d : Ga
     → run_equations w B words (drop i gs) ≡ run_equations w B (words ++ word_of_equation w B words (get_or gs i d) ∷ []) (drop (i + 1) gs)
 run_step w B words gs i d h = at_drop_more (run_equations w B words) gs i d h
 
+-- an equation fits the words of the registers before it
 pub gate_fits : (core : Circuit) (w : ℕ) (gs : List Gate) (many i : ℕ) (d : Gate) → IsCore core → gs ≡ core.equations → w ≡ core.width → many ≡ core.inputs + i → i < length gs
     → IsEquation w many (get_or gs i d)
 gate_fits core w gs many i d is g e m h =
@@ -42,6 +43,7 @@ gate_fits core w gs many i d is g e m h =
     (subst (λ (k : ℕ). IsEquation core.width k (get_or gs i d)) (sym m)
     (subst (λ (l : List Gate). IsEquation core.width (core.inputs + i) (get_or l i d)) (sym g) at))
 
+-- a run of all equations is the run of the circuit
 pub run_ends : (core : Circuit) (w B : ℕ) (gs : List Gate) (words inputs : List ℕ) (i : ℕ) → gs ≡ core.equations → w ≡ core.width → B ≡ bits_of_width w → length gs ≤ i
     → run_equations w B words (drop i gs) ≡ run_equations w B inputs gs → words ≡ run_equations core.width (bits_of_width core.width) inputs core.equations
 run_ends core w B gs words inputs i g e b h same =
@@ -50,10 +52,12 @@ run_ends core w B gs words inputs i g e b h same =
     ∙ ap (λ (v : ℕ). run_equations w v inputs core.equations) b
     ∙ ap (λ (v : ℕ). run_equations v (bits_of_width v) inputs core.equations) e
 
+-- one more output word
 pub outputs_step : (words : List ℕ) (rs : List Reg) (i : ℕ) (d : Reg) → i < length rs
     → map (word_at words) (take (i + 1) rs) ≡ map (word_at words) (take i rs) ++ word_at words (get_or rs i d) ∷ []
 outputs_step words rs i d h = ap (map (word_at words)) (take_more rs i d h) ∙ map-append (word_at words) (take i rs) (get_or rs i d ∷ [])
 
+-- each output is a register
 pub output_fits : (core : Circuit) (rs : List Reg) (many i : ℕ) (d : Reg) → IsCore core → rs ≡ core.outputs → many ≡ registers core → i < length rs → (get_or rs i d).0 < many
 output_fits core rs many i d is e m h =
     let below : i < length core.outputs = subst (λ (l : List Reg). i < length l) e h in

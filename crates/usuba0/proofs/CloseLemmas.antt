@@ -18,6 +18,7 @@ use Rattle.usuba0.proofs.KeepLemmas.{input_named, head_term}
 use Rattle.usuba0.proofs.WalkLemmas.{among_at, all_found}
 use Rattle.usuba0.proofs.WalkSteps.{terms_in-push, length-terms_in, get_or-terms_in, number_of, order_room, place_below, AreOperands-map, AreOperands-both, operands_below, operands_of_equation, gate_of_head-same}
 
+-- the equations of two lists of terms stand one after the other
 pub equations_of-append : (reg : Term → Reg) (us vs : List Term) → equations_of reg (us ++ vs) ≡ equations_of reg us ++ equations_of reg vs
 equations_of-append reg [] vs = refl
 equations_of-append reg (Input i ∷ us) vs = equations_of-append reg us vs

@@ -13,9 +13,11 @@ use Rattle.usuba0.specs.State.Heads.{term_at, term_of_head, terms_of_heads, IsHe
 
 -- ---- lists
 
+-- registers of one number are one
 pub same_reg : (a b : Reg) → a.0 ≡ b.0 → a ≡ b
 same_reg a b e = let f : ℕ → Reg = λ n. record { 0 = n } in ap f e
 
+-- what stands in a list with one more element stands in the list or is the last
 pub slice_get-push : (ts : List Term) (t u : Term) (i : ℕ) → slice_get (ts ++ t ∷ []) i ≡ Some u → (slice_get ts i ≡ Some u) ⊎ ((i ≡ length ts) × (u ≡ t))
 slice_get-push [] t u zero e = inr (refl, cc)
 slice_get-push [] t u (suc i) e = absurd (cc)
@@ -23,22 +25,26 @@ slice_get-push (s ∷ ts) t u zero e = inl e
 slice_get-push (s ∷ ts) t u (suc i) e =
     elim (slice_get-push ts t u i e) [ inl p ↦ inl p | inr p ↦ inr (ap suc p.0, p.1) ]
 
+-- what stood in a list stands there with one more element
 pub slice_get-push_old : {X : Type 0} (ts : List X) (t u : X) (i : ℕ) → slice_get ts i ≡ Some u → slice_get (ts ++ t ∷ []) i ≡ Some u
 slice_get-push_old [] t u i e = absurd (cc)
 slice_get-push_old (s ∷ ts) t u zero e = e
 slice_get-push_old (s ∷ ts) t u (suc i) e = slice_get-push_old ts t u i e
 
+-- the last element stands behind the others
 pub slice_get-push_last : {X : Type 0} (ts : List X) (t : X) → slice_get (ts ++ t ∷ []) (length ts) ≡ Some t
 slice_get-push_last [] t = refl
 slice_get-push_last (s ∷ ts) t = slice_get-push_last ts t
 
 -- ---- once each
 
+-- numbers of one term are one
 pub once_at : (ts : List Term) (a b : Reg) → IsOnceEach ts → a.0 < length ts → b.0 < length ts → term_at ts a ≡ term_at ts b → a ≡ b
 once_at ts a b once p q e =
     same_reg a b
     (once a.0 b.0 (term_at ts a) (slice_get-get_or ts a.0 (Input 0) p) (slice_get-get_or ts b.0 (Input 0) q ∙ ap Some (sym e)))
 
+-- a new term leaves each term standing once
 pub once-push : (ts : List Term) (t : Term) → IsOnceEach ts → ((i : ℕ) → slice_get ts i ≡ Some t → ⊥) → IsOnceEach (ts ++ t ∷ [])
 once-push ts t once new i j u p q =
     elim (slice_get-push ts t u i p) as (λ _. i ≡ j) [
@@ -54,10 +60,12 @@ once-push ts t once new i j u p q =
 
 -- ---- inputs
 
+-- a new builder holds as many terms as it has inputs
 pub length-inputs : (n : ℕ) → length (input_terms n) ≡ n
 length-inputs zero = refl
 length-inputs (suc n) = length-append (input_terms n) (Input n ∷ []) ∙ (let e = length-inputs n in omega arith)
 
+-- the term at the number of an input is that input
 pub slice_get-inputs : (n i : ℕ) → i < n → slice_get (input_terms n) i ≡ Some (Input i)
 slice_get-inputs zero i h = absurd (omega arith)
 slice_get-inputs (suc n) i h =
@@ -74,6 +82,7 @@ slice_get-inputs (suc n) i h =
     below_or_same : (i n : ℕ) → i < suc n → (i < n) ⊎ (i ≡ n)
     below_or_same i n h = grind arith
 
+-- each input stands once
 pub once-inputs : (n : ℕ) → IsOnceEach (input_terms n)
 once-inputs n i j t p q =
     let a = slice_get_within (input_terms n) i t p in
@@ -85,6 +94,7 @@ once-inputs n i j t p q =
 
 -- ---- the terms of a list of operations
 
+-- each operation makes one term
 pub length-terms : (ts : List Term) (hs : List Head) → length (terms_of_heads ts hs) ≡ length ts + length hs
 length-terms ts [] = omega arith
 length-terms ts (h ∷ hs) =
@@ -92,16 +102,19 @@ length-terms ts (h ∷ hs) =
     let l = length-append ts (term_of_head ts h ∷ []) in
     omega arith
 
+-- one more operation makes one more term at the end
 pub terms-push : (ts : List Term) (hs : List Head) (h : Head) → terms_of_heads ts (hs ++ h ∷ []) ≡ terms_of_heads ts hs ++ term_of_head (terms_of_heads ts hs) h ∷ []
 terms-push ts [] h = refl
 terms-push ts (g ∷ hs) h = terms-push (ts ++ term_of_head ts g ∷ []) hs h
 
+-- operations add terms at the end
 pub terms_extend : (ts : List Term) (hs : List Head) → (more : List Term) × (terms_of_heads ts hs ≡ ts ++ more)
 terms_extend ts [] = ([], sym (append-nil ts))
 terms_extend ts (h ∷ hs) =
     let r = terms_extend (ts ++ term_of_head ts h ∷ []) hs in
     (term_of_head ts h ∷ r.0, r.1 ∙ append_assoc ts (term_of_head ts h ∷ []) r.0)
 
+-- the terms so far keep their numbers
 pub get_or-terms : (ts : List Term) (hs : List Head) (i : ℕ) (d : Term) → i < length ts → get_or (terms_of_heads ts hs) i d ≡ get_or ts i d
 get_or-terms ts hs i d h =
     let r = terms_extend ts hs in ap (λ l. get_or l i d) r.1 ∙ get_or_append_left ts r.0 d i h
@@ -120,6 +133,7 @@ term_of_head-append w (head.Shr k a) ts more p = ap (Shr k) (get_or_append_left 
 term_of_head-append w (head.Rotl k a) ts more p = ap (Rotl k) (get_or_append_left ts more (Input 0) a.0 p.2)
 term_of_head-append w (head.Refresh k a) ts more p = ap (Refresh k) (get_or_append_left ts more (Input 0) a.0 p)
 
+-- an operation over some numbers is one over more
 pub IsHead-more : (w n m : ℕ) (h : Head) → n ≤ m → IsHead w n h → IsHead w m h
 IsHead-more w n m (head.Const c) l p = p
 IsHead-more w n m (head.Xor a b) l p = (omega arith, omega arith)
@@ -131,10 +145,12 @@ IsHead-more w n m (head.Shr k a) l p = (p.0, p.1, omega arith)
 IsHead-more w n m (head.Rotl k a) l p = (p.0, p.1, omega arith)
 IsHead-more w n m (head.Refresh k a) l p = omega arith
 
+-- one more operation over earlier numbers
 pub AreHeads-push : (w n : ℕ) (hs : List Head) (h : Head) → AreHeads w n hs → IsHead w (n + length hs) h → AreHeads w n (hs ++ h ∷ [])
 AreHeads-push w n [] h p q = (subst (λ (m : ℕ). IsHead w m h) (omega arith) q, tt)
 AreHeads-push w n (g ∷ hs) h p q = (p.0, AreHeads-push w (suc n) hs h p.1 (subst (λ (m : ℕ). IsHead w m h) (omega arith) q))
 
+-- an operation at a place is over the numbers before it
 pub head_at : (w n : ℕ) (hs : List Head) (j : ℕ) (h : Head) → AreHeads w n hs → slice_get hs j ≡ Some h → IsHead w (n + j) h
 head_at w n [] j h p e = absurd (cc)
 head_at w n (g ∷ hs) zero h p e =
@@ -168,6 +184,7 @@ term_at_head w ts (g ∷ hs) (suc j) h p e =
     let place : length ts + suc j ≡ length (ts ++ t ∷ []) + j = omega arith in
     ap (slice_get all) place ∙ term_at_head w (ts ++ t ∷ []) hs j h q e
 
+-- no operation makes an input
 pub never_input : (ts : List Term) (h : Head) (k : ℕ) → term_of_head ts h ≡ Input k → ⊥
 never_input ts (head.Const c) k e = cc
 never_input ts (head.Xor a b) k e = cc
@@ -239,6 +256,7 @@ new_term w n hs h are is once new i e =
 
 -- ---- the derived equality
 
+-- operations that the test takes for equal are one
 pub head_eq-same : (h g : Head) → impl.eq-value.it h g ≡ true → h ≡ g
 head_eq-same (head.Const c) (head.Const d) e = let s : c ≡ d = search rules in ap head.Const s
 head_eq-same (head.Xor a b) (head.Xor x y) e =
@@ -260,6 +278,7 @@ head_eq-same (head.Refresh c a) (head.Refresh d x) e =
     let s : a.0 ≡ x.0 = search rules in let t : c ≡ d = search rules in let p = same_reg a x s in cc
 head_eq-same h g e = absurd (cc)
 
+-- the test takes an operation for equal to itself
 pub head_eq-itself : (h : Head) → impl.eq-value.it h h ≡ true
 head_eq-itself (head.Const c) = search rules
 head_eq-itself (head.Xor a b) = search rules

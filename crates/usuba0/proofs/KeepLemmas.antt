@@ -17,9 +17,11 @@ use Rattle.usuba0.specs.Builder.{Held, Holds, Names, Grows, term_of, input_terms
 use Rattle.usuba0.specs.State.Heads.{term_of_head, terms_of_heads, IsHead, AreHeads, IsBuilder}
 use Rattle.usuba0.proofs.HeadLemmas.{slice_get-inputs, get_or-terms, length-inputs, length-terms, terms-push, term_of_head-append, AreHeads-push, term_at_head, new_term, once-push, head_eq-same, head_eq-itself}
 
+-- the terms of a builder with n inputs
 abbrev pub terms : ℕ → List Head → List Term
 terms n hs = terms_of_heads (input_terms n) hs
 
+-- there are as many terms as inputs and operations
 pub length_of_terms : (n : ℕ) (hs : List Head) → length (terms n hs) ≡ n + length hs
 length_of_terms n hs = length-terms (input_terms n) hs ∙ ap (λ m. m + length hs) (length-inputs n)
 
@@ -62,6 +64,7 @@ inserts_new w n old new h e b is room absent =
       few = omega arith;
     }
 
+-- a set with an operation inserted is a builder again
 pub inserts : (w n : ℕ) (old new : List Head) (h : Head) → new ≡ (if list_any (impl.eq-value.it h) old then old else old ++ h ∷ [])
     → IsBuilder w n old → IsHead w (n + length old) h → n + length old < MAX_TERMS → Inserts w n old new h
 inserts w n old new h e b is room = by (list_any (impl.eq-value.it h) old) refl
@@ -89,6 +92,7 @@ named w n old new h at i is stored =
 
 -- ---- what stands at a number
 
+-- the number of an input names it
 pub input_named : (n : ℕ) (hs : List Head) (k : ℕ) → k < n → slice_get (terms n hs) k ≡ Some (Input k)
 input_named n hs k h =
     let li = length-inputs n in
@@ -97,9 +101,11 @@ input_named n hs k h =
     get_or-terms (input_terms n) hs k (Input 0) (omega arith) ∙ get_or_from_slice_get (input_terms n) k (Input k) (Input 0) (slice_get-inputs n k h) in
     slice_get-get_or (terms n hs) k (Input 0) (omega arith) ∙ ap Some a
 
+-- an input is no constant
 pub input_constant : (n : ℕ) (hs : List Head) (k : ℕ) → k < n → None ≡ constant (get_or (terms n hs) k (Input 0))
 input_constant n hs k h = sym (ap constant (get_or_from_slice_get (terms n hs) k (Input k) (Input 0) (input_named n hs k h)))
 
+-- the term at the number of an operation is that of the operation
 pub head_term : (w n : ℕ) (hs : List Head) (r : ℕ) (h : Head) → AreHeads w n hs → n ≤ r → slice_get hs (r - n) ≡ Some h
     → get_or (terms n hs) r (Input 0) ≡ term_of_head (terms n hs) h
 head_term w n hs r h are le there =
@@ -110,6 +116,7 @@ head_term w n hs r h are le there =
     get_or_from_slice_get (terms n hs) r t (Input 0)
     (subst (λ (m : ℕ). slice_get (terms n hs) m ≡ Some t) place (term_at_head w (input_terms n) hs (r - n) h are' there))
 
+-- a constant fits the width
 pub constant_fits : (w m : ℕ) (ts : List Term) (h : Head) → IsHead w m h → IfSome (constant (term_of_head ts h)) (λ c. c < 2 ^ w)
 constant_fits w m ts (head.Const c) p = p
 constant_fits w m ts (head.Xor a b) p = tt
@@ -121,6 +128,7 @@ constant_fits w m ts (head.Shr k a) p = tt
 constant_fits w m ts (head.Rotl k a) p = tt
 constant_fits w m ts (head.Refresh k a) p = tt
 
+-- there is something at each place of a list
 pub none_within : {X : Type 0} (xs : List X) (j : ℕ) → j < length xs → slice_get xs j ≡ None → ⊥
 none_within xs j h e = elim (slice_get_cases xs j).1 as (λ _. ⊥) [ inl p ↦ some_none (sym p.2 ∙ e) | inr p ↦ omega arith ]
   where
@@ -129,9 +137,11 @@ none_within xs j h e = elim (slice_get_cases xs j).1 as (λ _. ⊥) [ inl p ↦ 
 
 -- ---- constants below 2 ^ w
 
+-- the complement of a word fits its width
 pub xor_ones_lt : (w c x : ℕ) → c < 2 ^ w → x ≡ ones w → bit_xor c x < 2 ^ w
 xor_ones_lt w c x h e = let p = pow_pos w in xor_lt w c x h (omega arith)
 
+-- a rotated word fits its width
 pub rotated_lt : (w k c r : ℕ) → c < 2 ^ w → r ≡ rotated_left w k c → r < 2 ^ w
 rotated_lt w k c r h e =
     let p = pow_pos w in
@@ -140,6 +150,7 @@ rotated_lt w k c r h e =
     let o = or_lt w (shifted_left w k c) (shifted_right (w - k) c) a (omega arith) in
     omega arith
 
+-- a word shifted to the left fits its width
 pub shifted_left_lt : (w k c r : ℕ) → r ≡ shifted_left w k c → r < 2 ^ w
 shifted_left_lt w k c r e = let p = pow_pos w in let a : shifted_left w k c < 2 ^ w = mod_below (c * 2 ^ k) (2 ^ w) p in omega arith
 

@@ -7,6 +7,7 @@ use Rattle.usuba0.specs.declared.builder.Head.{Head}
 use Rattle.usuba0.specs.State.Heads.{IsBuilder}
 use Rattle.usuba0.specs.State.Walk.{unplaced, count_unplaced, IsWalk}
 
+-- a range with one more number
 pub range-push : (a k : ℕ) → range_with_len a (k + 1) ≡ range_with_len a k ++ (a + k) ∷ []
 range-push a zero = let e : a ≡ a + 0 = omega arith in ap (λ (m : ℕ). m ∷ []) e
 range-push a (suc k) =
@@ -57,5 +58,6 @@ start_walk w n heads places order builder p o =
     zero_more : (i : ℕ) → 0 + i ≡ i
     zero_more i = omega arith
 
+-- the same of a range from 0
 pub range-push_zero : (k : ℕ) → range_with_len 0 (k + 1) ≡ range_with_len 0 k ++ k ∷ []
 range-push_zero k = let e : 0 + k ≡ k = omega arith in range-push 0 k ∙ ap (λ (m : ℕ). range_with_len 0 k ++ m ∷ []) e

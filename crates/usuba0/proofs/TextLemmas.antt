@@ -13,6 +13,7 @@ equations_text-append k (g ∷ gs) hs =
     ap (λ (t : List ℕ). equation_text k g ++ t) (equations_text-append (suc k) gs hs ∙ ap (λ (m : ℕ). equations_text (suc k) gs ++ equations_text m hs) place)
     ∙ sym (append_assoc (equation_text k g) (equations_text (suc k) gs) (equations_text (k + suc (length gs)) hs))
 
+-- the text of one more equation
 pub equations_text-more : (k : ℕ) (gs : List Gate) (i : ℕ) (d : Gate) → i < length gs
     → equations_text k (take i gs) ++ equation_text (k + i) (get_or gs i d) ≡ equations_text k (take (i + 1) gs)
 equations_text-more k gs i d h =
@@ -24,6 +25,7 @@ equations_text-more k gs i d h =
     ∙ ap (λ (m : ℕ). equations_text k (take i gs) ++ equations_text (k + m) (g ∷ [])) len
     ∙ ap (λ (t : List ℕ). equations_text k (take i gs) ++ t) (append-nil (equation_text (k + i) g)))
 
+-- the text of equations is that of those before one, of that one and of those behind it
 pub equations_text-around : (k : ℕ) (gs : List Gate) (i : ℕ) (d : Gate) → i < length gs
     → equations_text k (take i gs) ++ (equation_text (k + i) (get_or gs i d) ++ equations_text (suc (k + i)) (drop (i + 1) gs)) ≡ equations_text k gs
 equations_text-around k gs i d h =
@@ -39,6 +41,7 @@ equations_text-around k gs i d h =
 pub parts_assoc : (a b c d e : List ℕ) → a ++ (b ++ (c ++ (d ++ e))) ≡ (((a ++ b) ++ c) ++ d) ++ e
 parts_assoc a b c d e = sym (simp append_assoc)
 
+-- the text of a circuit from its parts
 pub core_text_parts : (core : Circuit) (w n m : ℕ) (gs : List Gate) (rs : List Reg) → w ≡ core.width → n ≡ core.inputs → m ≡ core.inputs → gs ≡ core.equations → rs ≡ core.outputs
     → head_text w n ++ (equations_text m gs ++ (codes "outputs" ++ (outputs_text rs ++ codes "\n"))) ≡ core_text core
 core_text_parts core w n m gs rs ew en em eg er =

@@ -25,6 +25,7 @@ and_right false b e = absurd (true≢false (sym e))
 and_both : (a b : Bool) → a ≡ true → b ≡ true → (a && b) ≡ true
 and_both a b p q = ap (λ (x : Bool). x && b) p ∙ q
 
+-- terms that the test takes for one are one
 pub same_term-true : (t u : Term) → same_term t u ≡ true → t ≡ u
 same_term-true (Input i) (Input j) e = ap Input (number_same i j e)
 same_term-true (Const c) (Const d) e = ap Const (number_same c d e)
@@ -45,6 +46,7 @@ same_term-true (Refresh k a) (Refresh m x) e =
     let p = same_term-true a x (and_right (k == m) (same_term a x) e) in let q = number_same k m (and_left (k == m) (same_term a x) e) in cc
 same_term-true t u e = absurd (true≢false (sym e))
 
+-- the test takes a term for itself
 pub same_term-itself : (t : Term) → same_term t t ≡ true
 same_term-itself (Input i) = number_itself i
 same_term-itself (Const c) = number_itself c
@@ -67,10 +69,12 @@ among_left_by : (r a b : Bool) → (a ≡ true → b ≡ true) → (if r then tr
 among_left_by true a b f e = refl
 among_left_by false a b f e = f e
 
+-- what is among some terms is among more
 pub among_left : (t : Term) (us vs : List Term) → is_among t us ≡ true → is_among t (us ++ vs) ≡ true
 among_left t [] vs e = absurd (true≢false (sym e))
 among_left t (u ∷ us) vs e = among_left_by (same_term t u) (is_among t us) (is_among t (us ++ vs)) (among_left t us vs) e
 
+-- the last term is among the terms
 pub among_last : (t : Term) (us : List Term) → is_among t (us ++ t ∷ []) ≡ true
 among_last t [] = ap (λ (r : Bool). if r then true else false) (same_term-itself t)
 among_last t (u ∷ us) = or_if (same_term t u) _ (among_last t us)
@@ -104,6 +108,7 @@ pub among_place : (t : Term) (us : List Term) (d : Term) → is_among t us ≡ t
 among_place t [] d e = absurd (true≢false (sym e))
 among_place t (u ∷ us) d e = among_place_by t u us d (place_of t us) (same_term t u) refl (among_place t us d) e
 
+-- the term at a place is among the terms
 pub among_at : (us : List Term) (k : ℕ) (d : Term) → k < length us → is_among (get_or us k d) us ≡ true
 among_at [] k d h = absurd (omega arith)
 among_at (u ∷ us) zero d h = ap (λ (r : Bool). if r then true else is_among u us) (same_term-itself u)
@@ -111,16 +116,19 @@ among_at (u ∷ us) (suc k) d h = or_if (same_term (get_or us k d) u) _ (among_a
 
 -- ---- all in a list
 
+-- two lists that are among some terms are so together
 pub AllAmong-append : (us vs ts : List Term) → AllAmong us ts → AllAmong vs ts → AllAmong (us ++ vs) ts
 AllAmong-append [] vs ts p q = q
 AllAmong-append (u ∷ us) vs ts p q = (p.0, AllAmong-append us vs ts p.1 q)
 
+-- what is among some terms is among more
 pub AllAmong-more : (us ts more : List Term) → AllAmong us ts → AllAmong us (ts ++ more)
 AllAmong-more [] ts more p = tt
 AllAmong-more (u ∷ us) ts more p = (among_left u ts more p.0, AllAmong-more us ts more p.1)
 
 -- ---- first places
 
+-- the first places of two lists, one after the other
 pub first_places-append : (found us vs : List Term) → first_places found (us ++ vs) ≡ first_places (first_places found us) vs
 first_places-append found [] vs = refl
 first_places-append found (u ∷ us) vs = first_places-append (if is_among u found then found else found ++ u ∷ []) us vs
@@ -139,11 +147,13 @@ extend_by : (found us : List Term) (u : Term) (r : Bool) → Extends found (firs
 extend_by found us u true p q = p
 extend_by found us u false p q = (u ∷ q.0, q.1 ∙ append_assoc found (u ∷ []) q.0)
 
+-- first places go on from those that were found
 pub first_places-extend : (found us : List Term) → (more : List Term) × (first_places found us ≡ found ++ more)
 first_places-extend found [] = ([], sym (append-nil found))
 first_places-extend found (u ∷ us) =
     extend_by found us u (is_among u found) (first_places-extend found us) (first_places-extend (found ++ u ∷ []) us)
 
+-- terms that were found stay found
 pub AllAmong-first_places : (us found vs : List Term) → AllAmong us found → AllAmong us (first_places found vs)
 AllAmong-first_places us found vs p =
     let e = first_places-extend found vs in subst (λ (ts : List Term). AllAmong us ts) (sym e.1) (AllAmong-more us found e.0 p)
@@ -152,6 +162,7 @@ found_here : (u : Term) (found : List Term) (r : Bool) → is_among u found ≡ 
 found_here u found true p = p
 found_here u found false p = among_last u found
 
+-- each term has a first place
 pub all_found : (us found : List Term) → AllAmong us (first_places found us)
 all_found [] found = tt
 all_found (u ∷ us) found =
@@ -179,6 +190,7 @@ first_places-one found us rest t p q =
     ∙ first_places-there found us (t ∷ rest) p
     ∙ ap (λ (r : Bool). first_places (if r then found else found ++ t ∷ []) rest) q
 
+-- the walk of two lists is the walk of one after that of the other
 pub walk-append : (us vs : List Term) → walk (us ++ vs) ≡ walk us ++ walk vs
 walk-append [] vs = refl
 walk-append (u ∷ us) vs = ap (λ (l : List Term). postorder u ++ l) (walk-append us vs) ∙ sym (append_assoc (postorder u) (walk us) (walk vs))

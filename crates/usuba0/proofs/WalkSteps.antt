@@ -19,19 +19,23 @@ use Rattle.usuba0.proofs.WalkLemmas.{among_at, among_last, among_push, among_pla
 
 -- ---- terms of numbers
 
+-- the terms of one more number
 pub terms_in-push : (ts : List Term) (is : List ℕ) (i : ℕ) → terms_in ts (is ++ i ∷ []) ≡ terms_in ts is ++ get_or ts i (Input 0) ∷ []
 terms_in-push ts [] i = refl
 terms_in-push ts (k ∷ is) i = ap (λ (l : List Term). get_or ts k (Input 0) ∷ l) (terms_in-push ts is i)
 
+-- as many terms as numbers
 pub length-terms_in : (ts : List Term) (is : List ℕ) → length (terms_in ts is) ≡ length is
 length-terms_in ts [] = refl
 length-terms_in ts (i ∷ is) = ap suc (length-terms_in ts is)
 
+-- the term of the number at a place
 pub get_or-terms_in : (ts : List Term) (is : List ℕ) (k : ℕ) → k < length is → get_or (terms_in ts is) k (Input 0) ≡ get_or ts (get_or is k 0) (Input 0)
 get_or-terms_in ts [] k h = absurd (omega arith)
 get_or-terms_in ts (i ∷ is) zero h = refl
 get_or-terms_in ts (i ∷ is) (suc k) h = get_or-terms_in ts is k (omega arith)
 
+-- the walk of what waits, with one more term that waits
 pub pending_walk-push : (us : List Term) (t : Term) → pending_walk (us ++ t ∷ []) ≡ postorder t ++ pending_walk us
 pending_walk-push [] t = sym (append-nil (postorder t))
 pending_walk-push (u ∷ us) t =
@@ -115,6 +119,7 @@ module _ (w n : ℕ) (heads : List Head) (places order : List ℕ) (builder : Is
 
 -- ---- operands
 
+-- what holds of each operand, and so what follows from it
 pub AreOperands-map : (P Q : Reg → Type 0) (h : Head) → ((a : Reg) → P a → Q a) → AreOperands P h → AreOperands Q h
 AreOperands-map P Q (head.Const c) f p = tt
 AreOperands-map P Q (head.Xor a b) f p = (f a p.0, f b p.1)
@@ -126,6 +131,7 @@ AreOperands-map P Q (head.Shr k a) f p = f a p
 AreOperands-map P Q (head.Rotl k a) f p = f a p
 AreOperands-map P Q (head.Refresh k a) f p = f a p
 
+-- two facts of each operand are one fact
 pub AreOperands-both : (P Q : Reg → Type 0) (h : Head) → AreOperands P h → AreOperands Q h → AreOperands (λ a. P a × Q a) h
 AreOperands-both P Q (head.Const c) p q = tt
 AreOperands-both P Q (head.Xor a b) p q = ((p.0, q.0), (p.1, q.1))
@@ -137,6 +143,7 @@ AreOperands-both P Q (head.Shr k a) p q = (p, q)
 AreOperands-both P Q (head.Rotl k a) p q = (p, q)
 AreOperands-both P Q (head.Refresh k a) p q = (p, q)
 
+-- the operands of an operation are earlier numbers
 pub operands_below : (w m : ℕ) (h : Head) → IsHead w m h → AreOperands (λ a. a.0 < m) h
 operands_below w m (head.Const c) p = tt
 operands_below w m (head.Xor a b) p = p
@@ -172,6 +179,7 @@ operands_of_equation w m reg (head.Shr k a) p = p.2
 operands_of_equation w m reg (head.Rotl k a) p = p.2
 operands_of_equation w m reg (head.Refresh k a) p = p
 
+-- registers that agree on the operands make one equation
 pub gate_of_head-same : (f g : Reg → Reg) (h : Head) → AreOperands (λ a. f a ≡ g a) h → gate_of_head f h ≡ gate_of_head g h
 gate_of_head-same f g (head.Const c) p = refl
 gate_of_head-same f g (head.Xor a b) p = let x = p.0 in let y = p.1 in cc
@@ -259,6 +267,7 @@ walk_operand ts made places (head.Refresh k a) r rest p e =
 parts_last : (us made : List Term) (t : Term) → AllAmong us made → AllAmong (us ++ t ∷ []) (made ++ t ∷ [])
 parts_last us made t p = AllAmong-append us (t ∷ []) (made ++ t ∷ []) (AllAmong-more us made (t ∷ []) p) (among_last t made, tt)
 
+-- the parts of the term of an operation are those that were made, and the term itself
 pub own_parts : (ts made : List Term) (h : Head) → Parts ts made h → AllAmong (postorder (term_of_head ts h)) (made ++ term_of_head ts h ∷ [])
 own_parts ts made (head.Const c) p = parts_last [] made (Const c) tt
 own_parts ts made (head.Xor a b) p =
@@ -272,6 +281,7 @@ own_parts ts made (head.Shr k a) p = parts_last (postorder (term_at ts a)) made 
 own_parts ts made (head.Rotl k a) p = parts_last (postorder (term_at ts a)) made (Rotl k (term_at ts a)) p
 own_parts ts made (head.Refresh k a) p = parts_last (postorder (term_at ts a)) made (Refresh k (term_at ts a)) p
 
+-- terms with all their parts, and one more whose operands are there
 pub closed_push : (ts made : List Term) (h : Head) → IsClosed made → Parts ts made h → IsClosed (made ++ term_of_head ts h ∷ [])
 closed_push ts made h closed parts t e =
     elim (among_push t (term_of_head ts h) made e) as (λ _. AllAmong (postorder t) (made ++ term_of_head ts h ∷ [])) [

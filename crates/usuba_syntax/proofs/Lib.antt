@@ -4,6 +4,7 @@ mod Complete
 mod Coverage
 mod Evaluation
 mod Faults
+mod KnownTokens
 mod Made
 mod Meaning
 mod Nested
@@ -18,3 +19,4 @@ mod Reading
 mod Runs
 mod Sound
 mod Texts
+mod WorkedTokens

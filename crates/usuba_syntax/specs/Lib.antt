@@ -7,5 +7,6 @@ pub mod Files
 pub mod Nesting
 pub mod SourceFaults
 pub mod Sources
+pub mod KnownFile
 pub mod Classes
 pub mod Values

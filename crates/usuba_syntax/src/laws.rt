@@ -1,9 +1,13 @@
 //! Laws about the grammar, each the contract of a function that does nothing.
 
 ghost use Rattle.std.specs.Prelude.{◌≡◌, ◌⊎◌, ℕ, List};
+ghost use Rattle.tor_edge.specs.declared.place.Place.{Place};
 ghost use Rattle.usuba_syntax.specs.Files.{IsFile};
+ghost use Rattle.usuba_syntax.specs.KnownFile.{known_text, known_file};
 ghost use Rattle.usuba_syntax.specs.SourceFaults.{SourceFault};
 ghost use Rattle.usuba_syntax.specs.Sources.{SpellsFile, HasFault};
+ghost use Rattle.usuba_tokens.specs.Tokens.{Spells, start};
+ghost use Rattle.usuba_tokens.specs.declared.token.Ending.TheVariants as ending;
 ghost use Rattle.usuba_tokens.specs.declared.token.Token.{Token};
 ghost use Rattle.usuba_trees.specs.declared.File.{File};
 
@@ -35,3 +39,8 @@ pub fn file_or_fault()
     every_text_spells();
     text_or_fault(&PRODUCTIONS, FRAME);
 }
+
+/// A small text with every form of the grammar spells tokens, and these are the file whose tree is written out.
+pub fn known_cases()
+    ensures { (tokens : List Token) × (at : Place) × Spells start known_text tokens (ending.End at) × IsFile tokens known_file }
+{}

@@ -9,7 +9,7 @@ mod table;
 mod tests;
 mod tree;
 
-pub use laws::{file_or_fault, one_file, one_source};
+pub use laws::{file_or_fault, known_cases, one_file, one_source};
 pub use read::{ReadFault, read_file};
 pub use usuba_trees::{
     Base, BitOp, Decl, Def, Equation, Expr, File, Grid, Index, IndexLink, IndexOp, Item, Link,

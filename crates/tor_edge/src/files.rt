@@ -1,6 +1,7 @@
 ghost use Rattle.std.specs.Prelude.{◌≡◌, ℕ, ◌<◌, ◌≤◌, ◌↔◌, List, Option, None, Some, length, IfSome, IfOk, IsErrOf};
 ghost use Rattle.tor_edge.specs.Count.{Rose};
-ghost use Rattle.tor_edge.specs.Fetch.{OnFailed, OnTooLong, OnOkOrTooLong, OnOkOrMemory, IsFailedOrMemory, IsLongerThan, refused_after, IsFetchedNext};
+ghost use Rattle.tor_edge.specs.Fetch.{OnFailed, OnTooLong, OnOkOrTooLong, OnOkOrMemory};
+ghost use Rattle.tor_edge.specs.Fetch.{IsFailedOrMemory, IsLongerThan, refused_after, IsFetchedNext};
 ghost use Rattle.tor_edge.specs.declared.files.Refusal.{Refusal};
 ghost use Rattle.tor_edge.specs.declared.files.FetchFault.TheVariants.{Memory};
 

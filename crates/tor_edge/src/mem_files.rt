@@ -1,7 +1,8 @@
 ghost use Rattle.std.specs.Prelude.{◌≡◌, ◌≤◌, ◌↔◌, ◌⊎◌, [], None, Some, length, Contains, IfSome, IfOk, IsErrOf};
 ghost use Rattle.std.specs.Option.{option_copied, unwrap_or};
 ghost use Rattle.tor_edge.specs.Count.{Rose};
-ghost use Rattle.tor_edge.specs.Fetch.{OnFailed, OnTooLong, OnOkOrTooLong, OnOkOrMemory, IsFailedOrMemory, IsLongerThan, refused_after, IsFetchedNext};
+ghost use Rattle.tor_edge.specs.Fetch.{OnFailed, OnTooLong, OnOkOrTooLong, OnOkOrMemory};
+ghost use Rattle.tor_edge.specs.Fetch.{IsFailedOrMemory, IsLongerThan, refused_after, IsFetchedNext};
 ghost use Rattle.tor_edge.specs.Held.{file_of};
 ghost use Rattle.tor_edge.specs.Trips.{one_more};
 ghost use Rattle.tor_edge.specs.declared.files.FetchFault.TheVariants.{Failed};
@@ -69,7 +70,8 @@ impl Files for MemFiles {
             OnOkOrTooLong result (IsErrOf result FetchFault.TooLong ↔ IsLongerThan MAX_FILE_BYTES (file name.now))) }
         ensures within { IfOk result (λ bytes. length bytes ≤ MAX_FILE_BYTES) }
         ensures told { IfOk result (λ bytes. IfSome (⟦<MemFiles as Files>⟧.contents self.old) (λ file. file name.now ≡ Some bytes)) }
-        ensures fetched_next { IsFetchedNext (⟦<MemFiles as Files>⟧.fetched self.old) (⟦<MemFiles as Files>⟧.fetched self.new) name.now result }
+        ensures fetched_next { IsFetchedNext (⟦<MemFiles as Files>⟧.fetched self.old)
+            (⟦<MemFiles as Files>⟧.fetched self.new) name.now result }
         ensures last_refused { ⟦<MemFiles as Files>⟧.refused self.new ≡ refused_after (⟦<MemFiles as Files>⟧.refused self.old) name.now result }
         ensures faults_stay { OnOkOrMemory result (⟦<MemFiles as Files>⟧.faults self.new ≡ ⟦<MemFiles as Files>⟧.faults self.old) }
         ensures too_long_stays { OnOkOrMemory result (⟦<MemFiles as Files>⟧.too_long self.new ≡ ⟦<MemFiles as Files>⟧.too_long self.old) }

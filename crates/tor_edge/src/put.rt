@@ -58,7 +58,8 @@ fn gather_piece<S: Sink>(
     waiting: &mut ArrayVec<u8, AT_ONE_GO>,
     piece: &Piece<'_>,
 ) -> Result<(), PutFault>
-    ensures { Gathered S.faults S.written sink.old sink.new waiting.old.items (piece_text piece.now) waiting.new.items result }
+    ensures { Gathered S.faults S.written sink.old sink.new waiting.old.items (piece_text piece.now)
+        waiting.new.items result }
 {
     match *piece {
         Piece::Text(text) => gather(sink, waiting, text),

@@ -7,7 +7,8 @@ use Rattle.tor_edge.proofs.put.put_pieces.Goals as goal
 
 pub loop-piece-preserved : goal.loop-piece-preserved
 loop-piece-preserved g c =
-    Gathered-next c.in_ok-gather_piece.field-0 piece_text _ _ _ c.loop-piece-test.true c.loop-piece.invariant c.in_ok-gather_piece.ensures
+    Gathered-next c.in_ok-gather_piece.field-0 piece_text _ _ _ c.loop-piece-test.true c.loop-piece.invariant
+    c.in_ok-gather_piece.ensures
 
 pub returns-in_err-gather_piece : goal.returns-in_err-gather_piece
 returns-in_err-gather_piece g c =
@@ -16,7 +17,8 @@ returns-in_err-gather_piece g c =
 
 pub returns : goal.returns
 returns g c =
-    let all : take c.loop-piece.piece-index c.args.pieces.now ≡ c.args.pieces.now = take_all c.loop-piece.piece-index c.args.pieces.now c.loop-piece-test.false in
+    let all : take c.loop-piece.piece-index c.args.pieces.now ≡ c.args.pieces.now =
+    take_all c.loop-piece.piece-index c.args.pieces.now c.loop-piece-test.false in
     let waited : c.as_slice.result.now ≡ c.loop-piece.waiting.items = search rules in
     Wrote-is {q = c.put_bytes.result} (ap text_of all)
     (SentOrWaiting-written c.loop-piece.invariant (Wrote-is {q = c.put_bytes.result} waited c.put_bytes.ensures.wrote))

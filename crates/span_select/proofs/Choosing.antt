@@ -1,8 +1,8 @@
 -- The least selection is found from the last group to the first: a group is left out where the rest does without it.
-use Rattle.std.proofs.Common.{◌≡◌, ◌⊎◌, ℕ, ◌+◌, ◌-◌, ◌<◌, ◌≤◌, zero, suc, Bool, true, false, List, [], ◌∷◌, ◌++◌, length, get_or, take, drop, All, refl, sym, ap, ◌∙◌, subst, inl, inr, arith, suc-le-suc, true≢false}
+use Rattle.std.proofs.Common.{◌≡◌, ◌⊎◌, ℕ, ◌+◌, ◌-◌, ◌<◌, ◌≤◌, zero, suc, Bool, true, false, List, [], ◌∷◌, ◌++◌, length, get_or, take, drop, refl, sym, ap, ◌∙◌, subst, inl, inr, arith, true≢false}
 use native.Mathlib.Nat.{le_of_suc-le-suc}
-use Rattle.std.proofs.lemmas.Bool.{cases_lt, cases_order}
-use Rattle.std.proofs.lemmas.List.{append-nil, append_assoc, take_more, drop_more, drop_all, take_all, length-drop, take-append-drop}
+use Rattle.std.proofs.lemmas.Bool.{cases_order}
+use Rattle.std.proofs.lemmas.List.{append-nil, append_assoc, take_more, drop_more, drop_all, take_all}
 use Rattle.span_model.specs.Columns.{Columns}
 use Rattle.span_model.specs.Span.{InSpan, Spans}
 use Rattle.span_model.proofs.Members.{in_behind, in_front, spans_both, spans_none}

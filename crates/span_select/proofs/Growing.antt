@@ -1,13 +1,13 @@
 -- Spans and words, row by row.
-use Rattle.std.proofs.Common.{◌≡◌, ℕ, ◌+◌, ◌*◌, ◌<◌, ◌≤◌, zero, suc, Bool, true, false, not, List, [], ◌∷◌, ◌++◌, length, get_or, set, map, take, replicate, All, ◌-◌, refl, sym, ap, ◌∙◌, subst, inl, inr, arith, suc-le-suc}
+use Rattle.std.proofs.Common.{◌≡◌, ℕ, ◌+◌, ◌<◌, ◌≤◌, Bool, false, not, List, [], ◌∷◌, ◌++◌, length, get_or, set, map, take, replicate, All, sym, ap, ◌∙◌, subst, inl, inr, arith}
 use mathlib.Core.Path.{fun_ext}
 use Rattle.std.proofs.lemmas.Bool.{cases_lt, cases_eq}
-use Rattle.std.proofs.lemmas.List.{append-nil, append_assoc, take_all, take_more, get_or-replicate, get_or_default, get_or_past, get_or_append_left, get_or-map, length-map, get_or_push, get_or-set_same, get_or-set_other, length_push, length-replicate, map_push}
-use Rattle.span_model.specs.Columns.{Columns, empty, set_of, sets_of}
-use Rattle.span_model.specs.Span.{InSpan, Spans, SameSpan}
-use Rattle.span_model.proofs.Members.{in_head, in_later, in_behind, in_front, spans_both, spans_cons}
+use Rattle.std.proofs.lemmas.List.{take_all, take_more, get_or-replicate, get_or_past, get_or_append_left, get_or-map, length-map, get_or_push, get_or-set_same, get_or-set_other, length_push, length-replicate, map_push}
+use Rattle.span_model.specs.Columns.{Columns, set_of, sets_of}
+use Rattle.span_model.specs.Span.{SameSpan}
+use Rattle.span_model.proofs.Members.{in_behind, in_front, spans_both}
 use Rattle.span_select.specs.Words.{raised, unit}
-use Rattle.span_select.proofs.Lasts.{raised_low, raised_high, raised_at, unit_here, unit_other}
+use Rattle.span_select.proofs.Lasts.{unit_here, unit_other}
 
 -- ---- rows one by one
 

@@ -1,11 +1,10 @@
 -- Sets of numbered columns: their last columns, sets that are moved up, and sets that hold no last column of a member.
-use Rattle.std.proofs.Common.{◌≡◌, ◌⊎◌, ℕ, ◌+◌, ◌-◌, ◌<◌, ◌≤◌, zero, suc, Bool, true, false, not, List, length, cond, eqb, eq-eqb, ne_eqb, eqb-true, lt-ltb, le-ltb, ltb, refl, sym, ap, ◌∙◌, subst, inl, inr, arith, true≢false}
+use Rattle.std.proofs.Common.{◌≡◌, ◌⊎◌, ℕ, ◌+◌, ◌-◌, ◌<◌, ◌≤◌, zero, suc, Bool, true, false, not, List, cond, eq-eqb, ne_eqb, eqb-true, lt-ltb, le-ltb, ltb, refl, sym, ap, ◌∙◌, subst, inl, inr, arith, true≢false}
 use Rattle.std.specs.Bool.{beq}
 use mathlib.Core.Path.{fun_ext}
 use native.Mathlib.Nat.{eq-or-lt_of_le}
-use Rattle.std.proofs.lemmas.Bool.{cases_lt, cases_eq, cases_order}
+use Rattle.std.proofs.lemmas.Bool.{cases_order}
 use Rattle.span_model.specs.Columns.{Columns, empty, ◌△◌}
-use Rattle.span_model.specs.Span.{InSpan}
 use Rattle.gf2_span.specs.Rows.{IsLast, HaveOwnLeads, HoldsNoLead, LeadsAreKept}
 use Rattle.span_select.specs.Words.{unit, raised, IsReduced}
 

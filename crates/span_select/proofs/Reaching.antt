@@ -1,14 +1,14 @@
 -- The last group that is needed is that of the last column of what is left of the leak.
-use Rattle.std.proofs.Common.{◌≡◌, ◌⊎◌, ℕ, ◌+◌, ◌-◌, ◌*◌, ◌<◌, ◌≤◌, zero, suc, Bool, true, false, List, [], ◌∷◌, ◌++◌, length, get_or, take, drop, reverse, refl, sym, ap, ◌∙◌, subst, inl, inr, arith, true≢false}
+use Rattle.std.proofs.Common.{◌≡◌, ℕ, ◌+◌, ◌-◌, ◌<◌, ◌≤◌, suc, Bool, true, false, List, [], ◌∷◌, ◌++◌, length, get_or, take, drop, reverse, refl, sym, ap, ◌∙◌, subst, inl, inr, arith, true≢false}
 use Rattle.std.proofs.lemmas.Bool.{cases_lt}
-use Rattle.std.proofs.lemmas.List.{append-nil, append_assoc, reverse-append, take-take, get_or-take, length-take-le}
+use Rattle.std.proofs.lemmas.List.{append-nil, reverse-append, take-take, get_or-take, length-take-le}
 use Rattle.span_model.specs.Columns.{Columns, empty, ◌△◌}
 use Rattle.span_model.specs.Span.{InSpan, Spans, SameSpan}
-use Rattle.span_model.proofs.Sets.{△_comm, △_assoc, △_swap, △-empty, △_cancel, △_cancel_right}
-use Rattle.span_model.proofs.Members.{empty_in, in_as, in_none, in_cases, in_sum, in_head, in_with, in_behind, in_front, in_parts, spans_both}
+use Rattle.span_model.proofs.Sets.{△_comm, △_assoc, △-empty, △_cancel, △_cancel_right}
+use Rattle.span_model.proofs.Members.{empty_in, in_as, in_none, in_cases, in_sum, in_with, in_behind, in_front, in_parts, spans_both}
 use Rattle.gf2_span.specs.Rows.{IsLast, LeadsNoMember}
-use Rattle.span_select.specs.Selection.{rows_of, chosen_rows, IsLeastSelection, numbers_from, numbers_of, AreLeastNumbers}
-use Rattle.span_select.specs.Words.{unit, raised, IsReduced, StandsFor, IsUpTo, IsFrame, AreWords, AreKept, IsLifted}
+use Rattle.span_select.specs.Selection.{rows_of, chosen_rows, numbers_from, AreLeastNumbers}
+use Rattle.span_select.specs.Words.{IsReduced, StandsFor, IsUpTo, IsFrame, AreWords, AreKept, IsLifted}
 use Rattle.span_select.proofs.Choosing.{spans_beside, spans_swap, selection_within, LeastFrom, Reaches, chosen_first, left_before, numbers-left, chosen-left, take_down, leave_all, none_settled}
 use Rattle.span_select.proofs.Lasts.{not_true, first_only, both_false, reduced_sum, reduced_as}
 use Rattle.span_select.proofs.Standing.{stands_empty, stands_sum, stands_row, stands_word, up_to_reduced, one_row, one_word, words_up, words_down, first_groups_word, first_groups_row}

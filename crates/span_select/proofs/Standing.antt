@@ -1,17 +1,16 @@
 -- Words and the rows that they stand for.
-use Rattle.std.proofs.Common.{◌≡◌, ◌⊎◌, ℕ, ◌+◌, ◌-◌, ◌*◌, ◌<◌, ◌≤◌, zero, suc, Bool, true, false, not, List, [], ◌∷◌, ◌++◌, length, get_or, take, refl, sym, ap, ◌∙◌, subst, inl, inr, arith, true≢false}
-use Rattle.std.specs.Bool.{beq}
+use Rattle.std.proofs.Common.{◌≡◌, ◌⊎◌, ℕ, ◌+◌, ◌*◌, ◌<◌, ◌≤◌, zero, suc, Bool, true, false, List, [], ◌∷◌, ◌++◌, length, get_or, take, refl, sym, ap, ◌∙◌, subst, inl, inr, arith, true≢false}
 use mathlib.Core.Path.{fun_ext}
 use native.Mathlib.Nat.{eq-or-lt_of_le}
-use Rattle.std.proofs.lemmas.Bool.{cases_lt, cases_eq}
+use Rattle.std.proofs.lemmas.Bool.{cases_lt}
 use Rattle.std.proofs.lemmas.List.{take_all}
 use Rattle.span_model.specs.Columns.{Columns, empty, ◌△◌}
-use Rattle.span_model.specs.Span.{InSpan, Spans}
-use Rattle.span_model.proofs.Sets.{△_comm, △_assoc, △_self, △-empty, empty-△, △_cancel, △_cancel_right, △_empty_same, △_swap, △_shared}
-use Rattle.span_model.proofs.Members.{empty_in, in_as, in_none, in_cases, in_sum, in_head, in_later, in_with, in_parts}
+use Rattle.span_model.specs.Span.{InSpan}
+use Rattle.span_model.proofs.Sets.{△_comm, △-empty, △_cancel_right, △_empty_same, △_swap, △_shared}
+use Rattle.span_model.proofs.Members.{empty_in, in_as, in_none, in_cases, in_sum, in_later, in_with, in_parts}
 use Rattle.gf2_span.specs.Rows.{IsLast}
 use Rattle.span_select.specs.Selection.{rows_of}
-use Rattle.span_select.specs.Words.{unit, raised, IsReduced, StandsFor, IsUpTo, IsFrame, AreOwned, AreWords, AreKept}
+use Rattle.span_select.specs.Words.{unit, raised, IsReduced, StandsFor, IsUpTo, IsFrame, AreWords, AreKept}
 use Rattle.span_select.proofs.Choosing.{rows_of_first, rows_of_one_more}
 use Rattle.span_select.proofs.Lasts.{not_true, both_false, both_there, same_tests, one_there, last_unique, there_not_empty, last_below, reduced_sum, unit_here, unit_other, unit_is, raised_low, raised_sum, raised_empty, raised_none}
 

@@ -1,9 +1,8 @@
 -- A row that the basis does not span is put into it; a group that was taken in is one more group that is kept.
-use Rattle.std.proofs.Common.{◌≡◌, ◌⊎◌, ℕ, ◌+◌, ◌-◌, ◌*◌, ◌<◌, ◌≤◌, zero, suc, Bool, true, false, not, List, [], ◌∷◌, ◌++◌, length, get_or, take, map, All, refl, sym, ap, ◌∙◌, subst, inl, inr, arith, true≢false}
-use mathlib.Core.Path.{fun_ext}
-use Rattle.std.specs.Bool.{beq, MatchBool}
+use Rattle.std.proofs.Common.{◌≡◌, ◌⊎◌, ℕ, ◌+◌, ◌-◌, ◌*◌, ◌<◌, ◌≤◌, Bool, true, false, List, [], ◌∷◌, ◌++◌, length, get_or, take, map, All, refl, sym, ap, ◌∙◌, subst, inl, inr, arith, true≢false}
+use Rattle.std.specs.Bool.{MatchBool}
 use Rattle.std.proofs.lemmas.Bool.{cases_lt, cases_eq}
-use Rattle.std.proofs.lemmas.List.{append-nil, take_all, take-append-le, length-map, length-append, length_push, get_or_default, get_or_past, get_or-map, get_or_append_left, get_or_push, map_push}
+use Rattle.std.proofs.lemmas.List.{take_all, take-append-le, length-map, length_push, get_or_past, get_or-map, get_or_append_left, get_or_push, map_push}
 use Rattle.span_model.specs.Columns.{Columns, empty, ◌△◌, set_of, sets_of}
 use Rattle.span_model.specs.Span.{difference, InSpan, Spans, SameSpan, IsIndependent}
 use Rattle.span_model.proofs.Sets.{△_assoc, △_cancel}
@@ -11,10 +10,10 @@ use Rattle.span_model.proofs.Members.{in_as, in_none, in_cases, in_sum, in_head,
 use Rattle.span_model.proofs.Ranks.{independent_behind, below_columns}
 use Rattle.gf2_span.specs.Rows.{IsLast}
 use Rattle.span_select.specs.Selection.{rows_of}
-use Rattle.span_select.specs.Words.{unit, raised, IsReduced, StandsFor, IsUpTo, IsFrame, AreOwned, AreWords, TakesIn, AreKept, IsKept}
+use Rattle.span_select.specs.Words.{unit, raised, IsReduced, StandsFor, IsUpTo, IsFrame, AreWords, TakesIn, AreKept, IsKept}
 use Rattle.span_select.proofs.Choosing.{rows_of-append}
-use Rattle.span_select.proofs.Lasts.{not_true, both_false, first_stays, second_only, same_tests, there_not_empty, unit_here, unit_other, unit_is}
-use Rattle.span_select.proofs.Standing.{up_to_more, frame_last, word_known, words_append}
+use Rattle.span_select.proofs.Lasts.{both_false, first_stays, second_only, same_tests, unit_here, unit_other, unit_is}
+use Rattle.span_select.proofs.Standing.{frame_last, word_known, words_append}
 
 -- ---- what stays while the basis grows
 

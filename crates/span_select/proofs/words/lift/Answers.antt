@@ -1,4 +1,4 @@
-use Rattle.std.proofs.Common.{ℕ, ◌≡◌, refl, List, Bool, length, take, subst, ◌∙◌, ◌*◌}
+use Rattle.std.proofs.Common.{ℕ, ◌≡◌, refl, List, Bool, length, take, subst, ◌∙◌}
 use Rattle.span_model.specs.Columns.{set_of, sets_of}
 use Rattle.gf2_span.specs.Basis.{row_sets}
 use Rattle.span_select.specs.Words.{StandsFor}

@@ -1,4 +1,4 @@
-use Rattle.std.proofs.Common.{ℕ, ◌≡◌, ◌≤◌, ◌<◌, ◌*◌, ◌++◌, [], List, Bool, All, length, map, get_or, take, sym, ap, subst, ◌∙◌, arith}
+use Rattle.std.proofs.Common.{ℕ, ◌≡◌, ◌≤◌, ◌<◌, ◌*◌, ◌++◌, [], List, Bool, All, length, get_or, take, sym, ap, subst, ◌∙◌, arith}
 use Rattle.span_model.specs.Columns.{set_of, sets_of}
 use Rattle.span_model.specs.Span.{InSpan, SameSpan}
 use Rattle.gf2_span.specs.Basis.{row_sets}

@@ -1,9 +1,6 @@
-use Rattle.std.proofs.Common.{[], ◌∷◌, ◌++◌, ◌≡◌, ◌+◌, ◌*◌, List, Bool, length, map, ap, subst, ◌∙◌, arith}
+use Rattle.std.proofs.Common.{◌≡◌, List, Bool, length, map, arith}
 use Rattle.std.proofs.lemmas.List.{map_push, length-map}
-use Rattle.gf2_span.specs.Basis.{row_sets}
-use Rattle.span_model.specs.Columns.{sets_of}
 use Rattle.span_select.specs.declared.groups.Group.{Group}
-use Rattle.span_select.specs.Words.{TakesIn}
 use Rattle.span_select.proofs.TakingIn.{kept_push}
 use Rattle.span_select.proofs.groups.Groups.push.Goals as goal
 

@@ -6,12 +6,12 @@
 use tor_edge::{Boxed, List, Name, Place};
 
 /// A source file: its definitions in text order.
-#[derive(Debug, Drop)]
+#[derive(Drop)]
 pub struct File {
     pub defs: List<Def>,
 }
 
-#[derive(Debug, Drop)]
+#[derive(Drop)]
 pub enum Def {
     Node(Node),
     Table(Grid),
@@ -19,13 +19,13 @@ pub enum Def {
 }
 
 /// A name where it stands in the text.
-#[derive(Debug, Drop)]
+#[derive(Drop)]
 pub struct Word {
     pub text: Name,
     pub place: Place,
 }
 
-#[derive(Debug, Drop)]
+#[derive(Drop)]
 pub struct Node {
     pub name: Word,
     pub inputs: List<Decl>,
@@ -35,7 +35,7 @@ pub struct Node {
 }
 
 /// A table or a permutation: its entries in text order.
-#[derive(Debug, Drop)]
+#[derive(Drop)]
 pub struct Grid {
     pub name: Word,
     pub inputs: List<Decl>,
@@ -44,14 +44,14 @@ pub struct Grid {
 }
 
 /// One declared name. A group `a, b : T` gives one for each name.
-#[derive(Debug, Drop)]
+#[derive(Drop)]
 pub struct Decl {
     pub name: Word,
     pub shape: Shape,
 }
 
 /// A type. Its place is that of its type word.
-#[derive(Debug, Drop)]
+#[derive(Drop)]
 pub struct Shape {
     pub base: Base,
     pub count: Option<u64>,
@@ -59,7 +59,7 @@ pub struct Shape {
     pub place: Place,
 }
 
-#[derive(Debug, Clone, Copy, PartialEq, Eq, Drop)]
+#[derive(Clone, Copy, Drop)]
 pub enum Base {
     /// Elements of the program's width.
     Poly,
@@ -67,14 +67,14 @@ pub enum Base {
     Bits(u32),
 }
 
-#[derive(Debug, Drop)]
+#[derive(Drop)]
 #[cycle(items)]
 pub enum Item {
     Equation(Equation),
     Loop(Loop),
 }
 
-#[derive(Debug, Drop)]
+#[derive(Drop)]
 pub struct Equation {
     pub left: List<Spot>,
     /// The place of the sign `=`.
@@ -82,7 +82,7 @@ pub struct Equation {
     pub right: Expr,
 }
 
-#[derive(Debug, Drop)]
+#[derive(Drop)]
 #[cycle(items)]
 pub struct Loop {
     /// The place of the word `forall`.
@@ -94,19 +94,19 @@ pub struct Loop {
 }
 
 /// A variable, or the parts of it that its brackets pick.
-#[derive(Debug, Drop)]
+#[derive(Drop)]
 pub struct Spot {
     pub name: Word,
     pub picks: List<Pick>,
 }
 
-#[derive(Debug, Drop)]
+#[derive(Drop)]
 pub enum Pick {
     One(Index),
     Range(Index, Index),
 }
 
-#[derive(Debug, Drop)]
+#[derive(Drop)]
 #[cycle(exprs)]
 pub enum Expr {
     Number {
@@ -140,7 +140,7 @@ pub enum Expr {
     },
 }
 
-#[derive(Debug, Clone, Copy, PartialEq, Eq, Drop)]
+#[derive(Clone, Copy, Drop)]
 pub enum BitOp {
     And,
     Xor,
@@ -148,7 +148,7 @@ pub enum BitOp {
 }
 
 /// A further operand of a chain, with the place of the sign before it.
-#[derive(Debug, Drop)]
+#[derive(Drop)]
 #[cycle(exprs)]
 pub struct Link {
     pub place: Place,
@@ -156,14 +156,14 @@ pub struct Link {
 }
 
 /// A shift by an amount, with the place of its sign.
-#[derive(Debug, Drop)]
+#[derive(Drop)]
 pub struct ShiftLink {
     pub kind: ShiftKind,
     pub place: Place,
     pub amount: Index,
 }
 
-#[derive(Debug, Clone, Copy, PartialEq, Eq, Drop)]
+#[derive(Clone, Copy, Drop)]
 pub enum ShiftKind {
     Left,
     Right,
@@ -172,7 +172,7 @@ pub enum ShiftKind {
 }
 
 /// An expression over whole numbers and loop counters.
-#[derive(Debug, Drop)]
+#[derive(Drop)]
 #[cycle(indexes)]
 pub enum Index {
     Number(u64),
@@ -184,14 +184,14 @@ pub enum Index {
 }
 
 /// A further operand of an index chain, with the sign before it.
-#[derive(Debug, Drop)]
+#[derive(Drop)]
 #[cycle(indexes)]
 pub struct IndexLink {
     pub op: IndexOp,
     pub operand: Index,
 }
 
-#[derive(Debug, Clone, Copy, PartialEq, Eq, Drop)]
+#[derive(Clone, Copy, Drop)]
 pub enum IndexOp {
     Add,
     Sub,

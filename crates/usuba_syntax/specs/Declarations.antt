@@ -6,7 +6,10 @@ use Rattle.usuba_tokens.specs.declared.token.Keyword.TheVariants as keyword
 use Rattle.usuba_tokens.specs.declared.token.Sign.TheVariants as sign
 use Rattle.usuba_tokens.specs.declared.token.Token.{Token}
 use Rattle.usuba_tokens.specs.declared.token.TypeWord.{TypeWord}
-use Rattle.usuba_parts.specs.Bases.{base_of}
+use Rattle.usuba_tokens.specs.declared.token.Base.{Base}
+use Rattle.usuba_tokens.specs.declared.token.Base.TheVariants as word
+use Rattle.usuba_trees.specs.declared.Base as trees
+use Rattle.usuba_trees.specs.declared.Base.TheVariants as tree
 use Rattle.usuba_trees.specs.declared.Decl.{Decl}
 use Rattle.usuba_trees.specs.declared.Shape.{Shape}
 use Rattle.usuba_trees.specs.declared.Word.{Word}
@@ -18,6 +21,11 @@ pub data IsDims : List Token → List ℕ → List Token → Type 0 where
   next_dim : {t : Token} {a b : List Token} {n : ℕ} {ns : List ℕ} {at end : Place}
       → IsNumber t n → 0 < n → IsDims a ns b
       → IsDims (sign sign.OpenSquare at ∷ t ∷ sign sign.CloseSquare end ∷ a) (n ∷ ns) b
+
+-- what an element of a type is: `v` words of the program's width, `u` and `b` so many bits
+abbrev pub base_of : Base → trees.Base
+base_of word.Poly = tree.Poly
+base_of (word.Bits w) = tree.Bits w
 
 -- type: TYPEWORD (`[` NUMBER `]`)*
 pub data IsShape : List Token → Shape → List Token → Type 0 where

@@ -8,15 +8,17 @@ use Rattle.span_model.specs.Attack.{Product, IsAttack}
 use Rattle.span_model.specs.Closure.{Step as ProductStep, on_left, operand, co_operand, co_operands}
 use Rattle.span_select.specs.Selection.{AreLeastNumbers}
 use Rattle.span_select.specs.SelectionLaws.{LeastSelections}
-use Rattle.attack_text.specs.declared.attack.Side.TheVariants.{Left}
-use Rattle.attack_text.specs.declared.attack.Step.{Step}
-use Rattle.attack_probes.specs.Derivations.{step_at, product_step, used_steps, IsInOrder, IsSound}
+use Rattle.linear_view.specs.declared.operand.Side.TheVariants.{Left}
+use Rattle.attack_model.specs.declared.attack.Step.{Step}
+use Rattle.attack_probes.specs.Derivations.{product_step, used_steps, IsSound}
+use Rattle.attack_model.specs.Derivations.{step_at, IsInOrder}
 use Rattle.attack_probes.specs.Unfolding.{unfolding_of}
 use Rattle.attack_probes.specs.UnfoldingLaws.{UnfoldingIsAttack}
+use Rattle.attack_model.proofs.UseLemmas.{are_uses_from}
 use Rattle.attack_cert.specs.Levels.{listed}
 use Rattle.attack_cert.specs.Derivation.{listed_at, lower_steps, places_of, IsDerivation}
 use Rattle.attack_cert.specs.DerivationLaws.{DerivationsHold}
-use Rattle.attack_cert.specs.Taken.{lower_counts}
+use Rattle.attack_cert.specs.Levelled.{lower_counts}
 use Rattle.attack_cert.proofs.Counting.{levels_few}
 use Rattle.attack_cert.proofs.Picks.{IsRising, rising_from, rising_back, rising_increases, rising_short, numbers_rise, numbered_rows, picked_rows}
 use Rattle.attack_cert.proofs.Supporting.{count_bound, lower_first, level_spans}
@@ -116,17 +118,15 @@ module _ {C : Type 0} (products : List (Product C)) (leak : Columns C) where
           let place = get_or d.places k 0 in
           let uses = (step_at steps k).uses in
           let within : k < length d.places = let m = many_steps in omega arith in
-          record {
-            rise = rising_increases uses (rise_back d.places uses (rising_from d.places d.rise) (uses_kept k h)
-                (least_rise (operand products (product_step (step_at steps k))) (map (co_operand products) (lower_steps (d.last ∷ d.lower) place)) (places_of d.places uses) (d.uses k h)));
-            below = below_back d.places uses k (rising_from d.places d.rise) (uses_kept k h) within
-                (λ i e l. let b = uses_lower k h i e l in let f = few_lower place (place_listed k h) in omega arith);
-          };
-      within = record {
-        rise = rising_increases root (rise_back d.places root (rising_from d.places d.rise) root_kept
-            (least_rise [] (map (co_operand products) (listed (d.last ∷ d.lower))) (places_of d.places root) d.root_uses));
-        below = d.root_numbers;
-      };
+          are_uses_from k uses
+          (rising_increases uses (rise_back d.places uses (rising_from d.places d.rise) (uses_kept k h)
+          (least_rise (operand products (product_step (step_at steps k))) (map (co_operand products) (lower_steps (d.last ∷ d.lower) place)) (places_of d.places uses) (d.uses k h))))
+          (below_back d.places uses k (rising_from d.places d.rise) (uses_kept k h) within
+          (λ i e l. let b = uses_lower k h i e l in let f = few_lower place (place_listed k h) in omega arith));
+      within = are_uses_from (length steps) root
+          (rising_increases root (rise_back d.places root (rising_from d.places d.rise) root_kept
+          (least_rise [] (map (co_operand products) (listed (d.last ∷ d.lower))) (places_of d.places root) d.root_uses)))
+          d.root_numbers;
     }
 
     -- the rows of groups of numbered places are the co-operands of the steps that are used

@@ -6,12 +6,14 @@ use Rattle.std.proofs.lemmas.List.{length-map, get_or-map, get_or_default}
 use Rattle.span_model.specs.Columns.{Columns, empty}
 use Rattle.span_model.specs.Attack.{Product}
 use Rattle.span_model.specs.Closure.{Step as ProductStep, on_left, operand, co_operand}
-use Rattle.attack_text.specs.declared.attack.Side.TheVariants.{Left}
-use Rattle.attack_text.specs.declared.attack.Step.{Step}
-use Rattle.attack_probes.specs.Derivations.{step_at, product_step}
+use Rattle.linear_view.specs.declared.operand.Side.TheVariants.{Left}
+use Rattle.linear_view.specs.Sides.{step_of}
+use Rattle.attack_model.specs.declared.attack.Step.{Step}
+use Rattle.attack_probes.specs.Derivations.{product_step}
+use Rattle.attack_model.specs.Derivations.{step_at}
 use Rattle.attack_cert.specs.Levels.{listed}
 use Rattle.attack_cert.specs.Derivation.{listed_at, lower_steps, places_of, IsReached, by_root, by_step, IsDerivation}
-use Rattle.attack_cert.specs.Taken.{taken_step, levelled_steps, ReachLeak}
+use Rattle.attack_cert.specs.Levelled.{levelled_steps, ReachLeak}
 use Rattle.attack_cert.specs.Kept as kept_words
 use Rattle.attack_cert.specs.Kept.{levelled_at, kept_places, StandFor, AreNumbered, IsPlaceReached, HasUses, AreReached}
 use Rattle.attack_cert.specs.declared.levels.Levelled.{Levelled}
@@ -39,7 +41,7 @@ number_within places numbers uses stand rise place number (k, lt, e) fits is =
 
 module _ (listed' : List Levelled) (root numbers : List ℕ) (kept : List Kept) (steps : List Step) (m : AreNumbered listed' root kept steps numbers) where
   length_steps : length steps ≡ length (kept_places kept)
-  length_steps = sym (length-map steps product_step) ∙ ap length m.same ∙ length-map (kept_places kept) (λ place. taken_step (levelled_at listed' place).taken)
+  length_steps = sym (length-map steps product_step) ∙ ap length m.same ∙ length-map (kept_places kept) (λ place. step_of (levelled_at listed' place).operand)
 
   length_kept : length (kept_places kept) ≡ length kept
   length_kept = length-map kept (λ (s : Kept). s.place)
@@ -59,14 +61,14 @@ module _ (listed' : List Levelled) (root numbers : List ℕ) (kept : List Kept) 
       by_step (number_reached rise r j fits_j is_j)
       (number_within (kept_places kept) (step_at steps j).uses (get_or kept j user).uses (m.uses j user lt) rise p number c_j fits is)
 
-  step_is : (k : ℕ) → k < length steps → product_step (step_at steps k) ≡ taken_step (levelled_at listed' (get_or (kept_places kept) k 0)).taken
+  step_is : (k : ℕ) → k < length steps → product_step (step_at steps k) ≡ step_of (levelled_at listed' (get_or (kept_places kept) k 0)).operand
   step_is k h =
       let blank : Step = record { product = 0; side = Left; uses = [] } in
       let none : ProductStep = record { product = 0; side = on_left } in
       let within : k < length (kept_places kept) = let l = length_steps in omega arith in
       sym (get_or-map product_step steps k blank none h)
       ∙ ap (λ (s : List ProductStep). get_or s k none) m.same
-      ∙ get_or-map (λ place. taken_step (levelled_at listed' place).taken) (kept_places kept) k 0 none within
+      ∙ get_or-map (λ place. step_of (levelled_at listed' place).operand) (kept_places kept) k 0 none within
 
 module _ {C : Type 0} (products : List (Product C)) (leak : Columns C) where
   pub is_derivation : (steps : List Levelled) (root numbers : List ℕ) (kept : List Kept) (out : List Step) → leak ≢ empty → ReachLeak products leak steps
@@ -88,7 +90,7 @@ module _ {C : Type 0} (products : List (Product C)) (leak : Columns C) where
         places = places;
         rise = a.rise;
         below = λ k d h. let b = a.below k d h in omega arith;
-        kept = m.same ∙ map_same (λ place. taken_step (levelled_at steps place).taken) (listed_at (listed levels)) places
+        kept = m.same ∙ map_same (λ place. step_of (levelled_at steps place).operand) (listed_at (listed levels)) places
             (λ k d h. at_listed levels steps r.are_listed (get_or places k d) (a.below k d h));
         root_numbers = λ k d h. let b = m.root_uses.below k d h in omega arith;
         root_uses = least_as [] [] (map (co_operand products) (levelled_steps steps)) (map (co_operand products) (listed levels)) leak root (places_of places numbers)
@@ -107,7 +109,7 @@ module _ {C : Type 0} (products : List (Product C)) (leak : Columns C) where
             let here : place < length steps = a.below number 0 (omega arith) in
             let has : HasUses products leak steps place (get_or kept number blank).uses
             = subst (λ (p : ℕ). HasUses products leak steps p (get_or kept number blank).uses) (sym place_of) (a.uses number blank within) in
-            least_as (operand products (taken_step (levelled_at steps place).taken)) (operand products (product_step (step_at out number)))
+            least_as (operand products (step_of (levelled_at steps place).operand)) (operand products (product_step (step_at out number)))
             (map (co_operand products) (take (levelled_at steps place).lower (levelled_steps steps))) (map (co_operand products) (lower_steps levels place)) leak
             (get_or kept number blank).uses (places_of places (step_at out number).uses)
             (ap (operand products) (sym (step_is steps root numbers kept out m number h)))

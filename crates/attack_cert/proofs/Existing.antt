@@ -13,13 +13,14 @@ use Rattle.span_model.specs.Closure.{Step as ProductStep, operand, co_operand, c
 use Rattle.span_model.proofs.Members.{in_behind, in_front, spans_both}
 use Rattle.span_model.proofs.Closing.{attack_closes}
 use Rattle.span_select.specs.Selection.{rows_of, chosen_rows, IsLesser, IsLeastSelection, AreLeastNumbers, numbers_of}
-use Rattle.attack_text.specs.declared.attack.Side.TheVariants.{Left, Right}
-use Rattle.attack_text.specs.declared.attack.Step.{Step}
+use Rattle.linear_view.specs.declared.operand.Side.TheVariants.{Left, Right}
+use Rattle.linear_view.specs.Sides.{step_of}
+use Rattle.attack_model.specs.declared.attack.Step.{Step}
 use Rattle.attack_cert.specs.Levels.{steps_of, none, taken, left_out}
 use Rattle.attack_cert.specs.Derivation.{IsDerivation}
-use Rattle.attack_cert.specs.Taken.{taken_step, taken_steps, levelled_steps, IsSpanned, IsSplit, ReachLeak}
+use Rattle.attack_cert.specs.Levelled.{operand_steps, levelled_steps, IsSpanned, IsSplit, ReachLeak}
 use Rattle.attack_cert.specs.Kept.{levelled_at, AreSupported, kept_places, AreReached}
-use Rattle.attack_cert.specs.declared.operands.Taken.{Taken}
+use Rattle.linear_view.specs.declared.operand.Operand.{Operand}
 use Rattle.attack_cert.specs.declared.levels.Levelled.{Levelled}
 use Rattle.attack_cert.specs.declared.reached.Kept.{Kept}
 use Rattle.attack_cert.proofs.Those.{split_length, in_tail}
@@ -230,7 +231,7 @@ numbers_made places n rise below (suc i) le =
     )
 
 -- every operand of so many products
-all_operands : (n : ℕ) → (operands : List Taken) × (taken_steps operands ≡ steps_of n)
+all_operands : (n : ℕ) → (operands : List Operand) × (operand_steps operands ≡ steps_of n)
 all_operands zero = ([], refl)
 all_operands (suc n) =
     let r = all_operands n in
@@ -240,31 +241,31 @@ all_operands (suc n) =
 -- ---- levels
 
 module _ {C : Type 0} (products : List (Product C)) (leak : Columns C) (nonempty : leak ≢ empty) where
-  splits : (rows : List (Columns C)) (pending : List Taken) → ¬ ¬ ((level : List Taken) × (rest : List Taken) × IsSplit products leak rows pending level rest)
+  splits : (rows : List (Columns C)) (pending : List Operand) → ¬ ¬ ((level : List Operand) × (rest : List Operand) × IsSplit products leak rows pending level rest)
   splits rows [] not = not ([], [], record { spanned = none; others = none })
-  splits rows (t ∷ pending) not = splits rows pending (λ x. either (IsSpanned products leak rows (taken_step t)) (λ e. elim e [
+  splits rows (t ∷ pending) not = splits rows pending (λ x. either (IsSpanned products leak rows (step_of t)) (λ e. elim e [
     | inl held ↦ not (t ∷ x.0, x.1, record { spanned = taken held x.2.spanned; others = left_out (λ fails. fails held) x.2.others })
     | inr fails ↦ not (x.0, t ∷ x.1, record { spanned = left_out fails x.2.spanned; others = taken fails x.2.others })
   ]))
 
-  further : (fuel : ℕ) → ((levels : List (List ProductStep)) (steps : List Levelled) (pending : List Taken) (rows : List (Columns C))
+  further : (fuel : ℕ) → ((levels : List (List ProductStep)) (steps : List Levelled) (pending : List Operand) (rows : List (Columns C))
       → Levelling products leak levels steps pending rows → length pending < fuel → ¬ ¬ ((found : List Levelled) × ReachLeak products leak found))
-      → (levels : List (List ProductStep)) (steps : List Levelled) (pending : List Taken) (rows : List (Columns C)) (level rest : List Taken)
+      → (levels : List (List ProductStep)) (steps : List Levelled) (pending : List Operand) (rows : List (Columns C)) (level rest : List Operand)
       → Levelling products leak levels steps pending rows → length pending < suc fuel → ¬ InSpan rows leak → IsSplit products leak rows pending level rest → IsClosed products leak
       → ¬ ¬ ((found : List Levelled) × ReachLeak products leak found)
   further fuel on levels steps pending rows [] rest l lt fails s closed not = levelling_is_stuck products leak levels steps pending [] rest rows l fails s refl closed
   further fuel on levels steps pending rows (t ∷ level) rest l lt fails s closed not =
-      let next = steps ++ map (λ (t : Taken). let s : Levelled = record { taken = t; lower = length steps } in s) (t ∷ level) in
-      let grown = rows ++ co_operands products (taken_steps (t ∷ level)) in
+      let next = steps ++ map (λ (t : Operand). let s : Levelled = record { operand = t; lower = length steps } in s) (t ∷ level) in
+      let grown = rows ++ co_operands products (operand_steps (t ∷ level)) in
       let parts = split_length (IsSpanned products leak rows) s.spanned s.others in
-      let a = length-map level taken_step in
-      let b = length-map rest taken_step in
-      let c = length-map pending taken_step in
-      on (taken_steps (t ∷ level) ∷ levels) next rest grown
+      let a = length-map level step_of in
+      let b = length-map rest step_of in
+      let c = length-map pending step_of in
+      on (operand_steps (t ∷ level) ∷ levels) next rest grown
       (levelling_goes_on products leak levels steps next pending (t ∷ level) rest rows grown l fails s refl (λ v. (λ m. m, λ m. m)))
       (omega arith) not
 
-  climbs : IsClosed products leak → (fuel : ℕ) (levels : List (List ProductStep)) (steps : List Levelled) (pending : List Taken) (rows : List (Columns C))
+  climbs : IsClosed products leak → (fuel : ℕ) (levels : List (List ProductStep)) (steps : List Levelled) (pending : List Operand) (rows : List (Columns C))
       → Levelling products leak levels steps pending rows → length pending < fuel → ¬ ¬ ((found : List Levelled) × ReachLeak products leak found)
   climbs closed zero levels steps pending rows l lt not = absurd (omega arith)
   climbs closed (suc fuel) levels steps pending rows l lt not = either (InSpan rows leak) (λ e. elim e [
@@ -285,7 +286,7 @@ module _ {C : Type 0} (products : List (Product C)) (leak : Columns C) (nonempty
       on needed kept count (reaching_skips products leak listed root place needed kept r (λ m. let wrong : false ≡ true = sym e ∙ m in cc)) not
   goes listed root s place within on needed kept count r true e not =
       let lower : List ProductStep = take (levelled_at listed place).lower (levelled_steps listed) in
-      let own = operand products (taken_step (levelled_at listed place).taken) in
+      let own = operand products (step_of (levelled_at listed place).operand) in
       let groups = map (co_operand products) lower in
       let many = length-map lower (co_operand products) in
       let rows : rows_of groups ≡ co_operands products lower

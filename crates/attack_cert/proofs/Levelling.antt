@@ -8,77 +8,78 @@ use Rattle.span_model.specs.Span.{InSpan, Spans, SameSpan}
 use Rattle.span_model.specs.Attack.{Product}
 use Rattle.span_model.specs.Closure.{Step, operand, co_operand, co_operands, IsChain, IsClosed}
 use Rattle.span_model.proofs.Members.{in_none, in_behind, in_front, spans_none, spans_both}
-use Rattle.attack_text.specs.declared.attack.Side.TheVariants.{Left, Right}
+use Rattle.linear_view.specs.declared.operand.Side.TheVariants.{Left, Right}
+use Rattle.linear_view.specs.Sides.{step_of}
 use Rattle.attack_cert.specs.Levels.{steps_of, AreThose, listed, HasNextLevel, AreLevels}
-use Rattle.attack_cert.specs.Taken.{taken_step, taken_steps, levelled_steps, lower_counts, AreListed, IsSpanned, IsSplit, ReachLeak}
-use Rattle.attack_cert.specs.declared.operands.Taken.{Taken}
+use Rattle.attack_cert.specs.Levelled.{operand_steps, levelled_steps, lower_counts, AreListed, IsSpanned, IsSplit, ReachLeak}
+use Rattle.linear_view.specs.declared.operand.Operand.{Operand}
 use Rattle.attack_cert.specs.declared.levels.Levelled.{Levelled}
 use Rattle.attack_cert.proofs.Those.{not_in_none, head_in, in_cases, in_those, those_hold, those_within, those_of_those, rest_of_those, all_those, split_length, taken_last, left_out_last, in_steps, steps_below, length-steps_of}
 
 -- both operands of one more product
-pub two_more : (operands : List Taken) (k : ℕ) → taken_steps operands ≡ steps_of k
-    → taken_steps ((operands ++ record { product = k; side = Left } ∷ []) ++ record { product = k; side = Right } ∷ []) ≡ steps_of (k + 1)
+pub two_more : (operands : List Operand) (k : ℕ) → operand_steps operands ≡ steps_of k
+    → operand_steps ((operands ++ record { product = k; side = Left } ∷ []) ++ record { product = k; side = Right } ∷ []) ≡ steps_of (k + 1)
 two_more operands k h =
-    let l : Taken = record { product = k; side = Left } in
-    let r : Taken = record { product = k; side = Right } in
+    let l : Operand = record { product = k; side = Left } in
+    let r : Operand = record { product = k; side = Right } in
     rw add-one
-    (map_push taken_step (operands ++ l ∷ []) r
-    ∙ ap (λ (xs : List Step). xs ++ taken_step r ∷ []) (map_push taken_step operands l ∙ ap (λ (xs : List Step). xs ++ taken_step l ∷ []) h)
-    ∙ append_assoc (steps_of k) (taken_step l ∷ []) (taken_step r ∷ []))
+    (map_push step_of (operands ++ l ∷ []) r
+    ∙ ap (λ (xs : List Step). xs ++ step_of r ∷ []) (map_push step_of operands l ∙ ap (λ (xs : List Step). xs ++ step_of l ∷ []) h)
+    ∙ append_assoc (steps_of k) (step_of l ∷ []) (step_of r ∷ []))
 
-taken_more : (pending : List Taken) (i : ℕ) (t : Taken) → i < length pending → t ≡ get_or pending i t
-    → taken_steps (take (i + 1) pending) ≡ taken_steps (take i pending) ++ taken_step t ∷ []
-taken_more pending i t h is =
-    ap taken_steps (take_more pending i t h ∙ ap (λ (x : Taken). take i pending ++ x ∷ []) (sym is)) ∙ map_push taken_step (take i pending) t
+next_operand : (pending : List Operand) (i : ℕ) (t : Operand) → i < length pending → t ≡ get_or pending i t
+    → operand_steps (take (i + 1) pending) ≡ operand_steps (take i pending) ++ step_of t ∷ []
+next_operand pending i t h is =
+    ap operand_steps (take_more pending i t h ∙ ap (λ (x : Operand). take i pending ++ x ∷ []) (sym is)) ∙ map_push step_of (take i pending) t
 
 -- one more operand is among those, or is left out
-pub those_more : (P : Step → Type 0) (pending level : List Taken) (i : ℕ) (t : Taken) → i < length pending → t ≡ get_or pending i t
-    → AreThose P (taken_steps (take i pending)) (taken_steps level) → P (taken_step t) → AreThose P (taken_steps (take (i + 1) pending)) (taken_steps (level ++ t ∷ []))
+pub those_more : (P : Step → Type 0) (pending level : List Operand) (i : ℕ) (t : Operand) → i < length pending → t ≡ get_or pending i t
+    → AreThose P (operand_steps (take i pending)) (operand_steps level) → P (step_of t) → AreThose P (operand_steps (take (i + 1) pending)) (operand_steps (level ++ t ∷ []))
 those_more P pending level i t h is before p =
-    let A : List Step → Type 0 = λ xs. AreThose P xs (taken_steps (level ++ t ∷ [])) in
-    let B : List Step → Type 0 = λ ys. AreThose P (taken_steps (take i pending) ++ taken_step t ∷ []) ys in
-    subst A (sym (taken_more pending i t h is)) (subst B (sym (map_push taken_step level t)) (taken_last P (taken_step t) p before))
+    let A : List Step → Type 0 = λ xs. AreThose P xs (operand_steps (level ++ t ∷ [])) in
+    let B : List Step → Type 0 = λ ys. AreThose P (operand_steps (take i pending) ++ step_of t ∷ []) ys in
+    subst A (sym (next_operand pending i t h is)) (subst B (sym (map_push step_of level t)) (taken_last P (step_of t) p before))
 
-pub others_more : (P : Step → Type 0) (pending level : List Taken) (i : ℕ) (t : Taken) → i < length pending → t ≡ get_or pending i t
-    → AreThose P (taken_steps (take i pending)) (taken_steps level) → ¬ P (taken_step t) → AreThose P (taken_steps (take (i + 1) pending)) (taken_steps level)
+pub others_more : (P : Step → Type 0) (pending level : List Operand) (i : ℕ) (t : Operand) → i < length pending → t ≡ get_or pending i t
+    → AreThose P (operand_steps (take i pending)) (operand_steps level) → ¬ P (step_of t) → AreThose P (operand_steps (take (i + 1) pending)) (operand_steps level)
 others_more P pending level i t h is before p =
-    let A : List Step → Type 0 = λ xs. AreThose P xs (taken_steps level) in
-    subst A (sym (taken_more pending i t h is)) (left_out_last P (taken_step t) p before)
+    let A : List Step → Type 0 = λ xs. AreThose P xs (operand_steps level) in
+    subst A (sym (next_operand pending i t h is)) (left_out_last P (step_of t) p before)
 
 -- operands of steps of products are of these products
-pub taken_below : (P : Step → Type 0) (n : ℕ) (operands : List Taken) → AreThose P (steps_of n) (taken_steps operands) → All (λ t. t.product < n) operands
-taken_below P n operands those k d h =
-    steps_below n (taken_step (get_or operands k d)) (those_within P those (taken_step (get_or operands k d)) (at operands k h)) where
-      at : (ts : List Taken) (k : ℕ) → k < length ts → Contains (taken_steps ts) (taken_step (get_or ts k d))
+pub operands_below : (P : Step → Type 0) (n : ℕ) (operands : List Operand) → AreThose P (steps_of n) (operand_steps operands) → All (λ t. t.product < n) operands
+operands_below P n operands those k d h =
+    steps_below n (step_of (get_or operands k d)) (those_within P those (step_of (get_or operands k d)) (at operands k h)) where
+      at : (ts : List Operand) (k : ℕ) → k < length ts → Contains (operand_steps ts) (step_of (get_or ts k d))
       at [] k h = absurd (omega arith)
-      at (t ∷ ts) zero h = head_in (taken_step t) (taken_steps ts)
+      at (t ∷ ts) zero h = head_in (step_of t) (operand_steps ts)
       at (t ∷ ts) (suc k) h = let m = at ts k (le_of_suc-le-suc h) in (suc m.0, omega (arith, m.1), m.2)
 
 -- the steps of a level, behind those that are listed
-level_steps : (level : List Taken) (n : ℕ) → levelled_steps (map (λ (t : Taken). let s : Levelled = record { taken = t; lower = n } in s) level) ≡ taken_steps level
+level_steps : (level : List Operand) (n : ℕ) → levelled_steps (map (λ (t : Operand). let s : Levelled = record { operand = t; lower = n } in s) level) ≡ operand_steps level
 level_steps [] n = refl
-level_steps (t ∷ level) n = ap (λ (xs : List Step). taken_step t ∷ xs) (level_steps level n)
+level_steps (t ∷ level) n = ap (λ (xs : List Step). step_of t ∷ xs) (level_steps level n)
 
-level_lower : (level : List Taken) (n : ℕ) → map (λ (s : Levelled). s.lower) (map (λ (t : Taken). let s : Levelled = record { taken = t; lower = n } in s) level) ≡ replicate (length (taken_steps level)) n
+level_lower : (level : List Operand) (n : ℕ) → map (λ (s : Levelled). s.lower) (map (λ (t : Operand). let s : Levelled = record { operand = t; lower = n } in s) level) ≡ replicate (length (operand_steps level)) n
 level_lower [] n = refl
 level_lower (t ∷ level) n = ap (λ (xs : List ℕ). n ∷ xs) (level_lower level n)
 
 pub length_listed : (levels : List (List Step)) (steps : List Levelled) → AreListed levels steps → length steps ≡ length (listed levels)
-length_listed levels steps l = sym (length-map steps (λ (s : Levelled). taken_step s.taken)) ∙ ap length l.same
+length_listed levels steps l = sym (length-map steps (λ (s : Levelled). step_of s.operand)) ∙ ap length l.same
 
-pub listed_next : (levels : List (List Step)) (steps next : List Levelled) (level : List Taken) → AreListed levels steps
-    → next ≡ steps ++ map (λ (t : Taken). let s : Levelled = record { taken = t; lower = length steps } in s) level
-    → AreListed (taken_steps level ∷ levels) next
+pub listed_next : (levels : List (List Step)) (steps next : List Levelled) (level : List Operand) → AreListed levels steps
+    → next ≡ steps ++ map (λ (t : Operand). let s : Levelled = record { operand = t; lower = length steps } in s) level
+    → AreListed (operand_steps level ∷ levels) next
 listed_next levels steps next level l e = record {
   same = ap levelled_steps e
-      ∙ map-append (λ (s : Levelled). taken_step s.taken) steps (map (λ (t : Taken). let s : Levelled = record { taken = t; lower = length steps } in s) level)
-      ∙ ap (λ (xs : List Step). xs ++ levelled_steps (map (λ (t : Taken). let s : Levelled = record { taken = t; lower = length steps } in s) level)) l.same
+      ∙ map-append (λ (s : Levelled). step_of s.operand) steps (map (λ (t : Operand). let s : Levelled = record { operand = t; lower = length steps } in s) level)
+      ∙ ap (λ (xs : List Step). xs ++ levelled_steps (map (λ (t : Operand). let s : Levelled = record { operand = t; lower = length steps } in s) level)) l.same
       ∙ ap (λ (xs : List Step). listed levels ++ xs) (level_steps level (length steps));
   lower = ap (map (λ (s : Levelled). s.lower)) e
-      ∙ map-append (λ (s : Levelled). s.lower) steps (map (λ (t : Taken). let s : Levelled = record { taken = t; lower = length steps } in s) level)
-      ∙ ap (λ (xs : List ℕ). xs ++ map (λ (s : Levelled). s.lower) (map (λ (t : Taken). let s : Levelled = record { taken = t; lower = length steps } in s) level)) l.lower
+      ∙ map-append (λ (s : Levelled). s.lower) steps (map (λ (t : Operand). let s : Levelled = record { operand = t; lower = length steps } in s) level)
+      ∙ ap (λ (xs : List ℕ). xs ++ map (λ (s : Levelled). s.lower) (map (λ (t : Operand). let s : Levelled = record { operand = t; lower = length steps } in s) level)) l.lower
       ∙ ap (λ (xs : List ℕ). lower_counts levels ++ xs) (level_lower level (length steps)
-      ∙ ap (replicate (length (taken_steps level))) (length_listed levels steps l));
+      ∙ ap (replicate (length (operand_steps level))) (length_listed levels steps l));
 }
 
 module _ {C : Type 0} (products : List (Product C)) where
@@ -97,20 +98,20 @@ module _ {C : Type 0} (products : List (Product C)) where
   ]
 
   -- one more co-operand
-  pub co_operands_more : (level : List Taken) (i : ℕ) (t : Taken) → i < length level → t ≡ get_or level i t
-      → co_operands products (taken_steps (take (i + 1) level)) ≡ co_operands products (taken_steps (take i level)) ++ co_operand products (taken_step t)
+  pub co_operands_more : (level : List Operand) (i : ℕ) (t : Operand) → i < length level → t ≡ get_or level i t
+      → co_operands products (operand_steps (take (i + 1) level)) ≡ co_operands products (operand_steps (take i level)) ++ co_operand products (step_of t)
   co_operands_more level i t h is =
-      ap (co_operands products) (taken_more level i t h is)
-      ∙ co_operands-append (taken_steps (take i level)) (taken_step t ∷ [])
-      ∙ ap (λ (rows : List (Columns C)). co_operands products (taken_steps (take i level)) ++ rows) (append-nil (co_operand products (taken_step t)))
+      ap (co_operands products) (next_operand level i t h is)
+      ∙ co_operands-append (operand_steps (take i level)) (step_of t ∷ [])
+      ∙ ap (λ (rows : List (Columns C)). co_operands products (operand_steps (take i level)) ++ rows) (append-nil (co_operand products (step_of t)))
 
-  pub grown_more : (old mid new rows : List (Columns C)) (level : List Taken) (i : ℕ) (t : Taken) → i < length level → t ≡ get_or level i t
-      → rows ≡ co_operand products (taken_step t)
-      → SameSpan mid (old ++ co_operands products (taken_steps (take i level))) → SameSpan new (mid ++ rows)
-      → SameSpan new (old ++ co_operands products (taken_steps (take (i + 1) level)))
+  pub grown_more : (old mid new rows : List (Columns C)) (level : List Operand) (i : ℕ) (t : Operand) → i < length level → t ≡ get_or level i t
+      → rows ≡ co_operand products (step_of t)
+      → SameSpan mid (old ++ co_operands products (operand_steps (take i level))) → SameSpan new (mid ++ rows)
+      → SameSpan new (old ++ co_operands products (operand_steps (take (i + 1) level)))
   grown_more old mid new rows level i t h is same before grown v =
-      let co = co_operands products (taken_steps (take i level)) in
-      let e : old ++ co_operands products (taken_steps (take (i + 1) level)) ≡ (old ++ co) ++ rows
+      let co = co_operands products (operand_steps (take i level)) in
+      let e : old ++ co_operands products (operand_steps (take (i + 1) level)) ≡ (old ++ co) ++ rows
       = ap (λ (r : List (Columns C)). old ++ r) (co_operands_more level i t h is ∙ ap (λ (r : List (Columns C)). co ++ r) (sym same)) ∙ sym (append_assoc old co rows) in
       subst (λ (r : List (Columns C)). (InSpan new v → InSpan r v) × (InSpan r v → InSpan new v)) (sym e) (
         (λ m. spans_both ((old ++ co) ++ rows) mid rows (λ u n. in_behind (old ++ co) rows u ((before u).0 n)) (in_front (old ++ co) rows) v ((grown v).0 m)),
@@ -124,15 +125,15 @@ module _ {C : Type 0} (products : List (Product C)) where
     NotBelow (last ∷ lower) = ¬ InSpan (co_operands products (listed lower)) leak
 
     -- these levels are found, and these operands pend
-    pub record Levelling (levels : List (List Step)) (steps : List Levelled) (pending : List Taken) (rows : List (Columns C)) : Type 0 where
+    pub record Levelling (levels : List (List Step)) (steps : List Levelled) (pending : List Operand) (rows : List (Columns C)) : Type 0 where
       pub are_levels : AreLevels products leak levels
       pub are_listed : AreListed levels steps
-      pub pend : AreThose (λ step. ¬ Contains (listed levels) step) (steps_of (length products)) (taken_steps pending)
+      pub pend : AreThose (λ step. ¬ Contains (listed levels) step) (steps_of (length products)) (operand_steps pending)
       pub same_span : SameSpan rows (co_operands products (listed levels))
       pub not_below : NotBelow levels
       pub count : length steps + length pending ≡ 2 * length products
 
-    pub levelling_begins : (pending : List Taken) → taken_steps pending ≡ steps_of (length products) → Levelling [] [] pending []
+    pub levelling_begins : (pending : List Operand) → operand_steps pending ≡ steps_of (length products) → Levelling [] [] pending []
     levelling_begins pending e = record {
       are_levels = tt;
       are_listed = record { same = refl; lower = refl };
@@ -140,7 +141,7 @@ module _ {C : Type 0} (products : List (Product C)) where
           (all_those (λ step. ¬ Contains [] step) (λ step. not_in_none step) (steps_of (length products)));
       same_span = λ v. (λ m. m, λ m. m);
       not_below = tt;
-      count = let n = length-steps_of (length products) in let p = ap length e in let q = length-map pending taken_step in omega (arith, n, p, q);
+      count = let n = length-steps_of (length products) in let p = ap length e in let q = length-map pending step_of in omega (arith, n, p, q);
     }
 
     -- what a step spans with the rows that are kept, it spans with the co-operands that are listed
@@ -160,9 +161,9 @@ module _ {C : Type 0} (products : List (Product C)) where
         (λ u n. in_front (operand products step) rows u ((same u).1 n))
         leak h
 
-    pub next_level : (levels : List (List Step)) (steps : List Levelled) (pending level rest : List Taken) (rows : List (Columns C))
+    pub next_level : (levels : List (List Step)) (steps : List Levelled) (pending level rest : List Operand) (rows : List (Columns C))
         → Levelling levels steps pending rows → IsSplit products leak rows pending level rest
-        → AreThose (HasNextLevel products leak levels) (steps_of (length products)) (taken_steps level)
+        → AreThose (HasNextLevel products leak levels) (steps_of (length products)) (operand_steps level)
     next_level levels steps pending level rest rows l s =
         those_of_those (λ step. ¬ Contains (listed levels) step) (IsSpanned products leak rows) (HasNextLevel products leak levels)
         (λ step p q. record { not_lower = p; spanned = with_listed levels rows l.same_span step q })
@@ -170,33 +171,33 @@ module _ {C : Type 0} (products : List (Product C)) where
         (λ step r. with_kept levels rows l.same_span step r.spanned)
         l.pend s.spanned
 
-    pub levelling_goes_on : (levels : List (List Step)) (steps next : List Levelled) (pending level rest : List Taken) (rows grown : List (Columns C))
+    pub levelling_goes_on : (levels : List (List Step)) (steps next : List Levelled) (pending level rest : List Operand) (rows grown : List (Columns C))
         → Levelling levels steps pending rows → ¬ InSpan rows leak → IsSplit products leak rows pending level rest
-        → next ≡ steps ++ map (λ (t : Taken). let s : Levelled = record { taken = t; lower = length steps } in s) level
-        → SameSpan grown (rows ++ co_operands products (taken_steps level))
-        → Levelling (taken_steps level ∷ levels) next rest grown
+        → next ≡ steps ++ map (λ (t : Operand). let s : Levelled = record { operand = t; lower = length steps } in s) level
+        → SameSpan grown (rows ++ co_operands products (operand_steps level))
+        → Levelling (operand_steps level ∷ levels) next rest grown
     levelling_goes_on levels steps next pending level rest rows grown l not_yet s e same =
         let co = co_operands products (listed levels) in
-        let more = co_operands products (taken_steps level) in
+        let more = co_operands products (operand_steps level) in
         record {
           are_levels = (next_level levels steps pending level rest rows l s, l.are_levels);
           are_listed = listed_next levels steps next level l.are_listed e;
-          pend = rest_of_those (IsSpanned products leak rows) (listed levels) (taken_steps level) (those_hold (IsSpanned products leak rows) s.spanned)
+          pend = rest_of_those (IsSpanned products leak rows) (listed levels) (operand_steps level) (those_hold (IsSpanned products leak rows) s.spanned)
               l.pend s.spanned (λ step m. m) s.others;
-          same_span = λ v. subst (λ (r : List (Columns C)). (InSpan grown v → InSpan r v) × (InSpan r v → InSpan grown v)) (sym (co_operands-append (listed levels) (taken_steps level))) (
+          same_span = λ v. subst (λ (r : List (Columns C)). (InSpan grown v → InSpan r v) × (InSpan r v → InSpan grown v)) (sym (co_operands-append (listed levels) (operand_steps level))) (
             (λ m. spans_both (co ++ more) rows more (λ u n. in_behind co more u ((l.same_span u).0 n)) (in_front co more) v ((same v).0 m)),
             (λ m. (same v).1 (spans_both (rows ++ more) co more (λ u n. in_behind rows more u ((l.same_span u).1 n)) (in_front rows more) v m)),
           );
           not_below = λ m. not_yet ((l.same_span leak).1 m);
           count =
-              let split : length (taken_steps level) + length (taken_steps rest) ≡ length (taken_steps pending) = split_length (IsSpanned products leak rows) s.spanned s.others in
+              let split : length (operand_steps level) + length (operand_steps rest) ≡ length (operand_steps pending) = split_length (IsSpanned products leak rows) s.spanned s.others in
               let many : length next ≡ length steps + length level = ap length e ∙ length-append steps _ ∙ ap (λ (k : ℕ). length steps + k) (length-map level _) in
               let count = l.count in
-              omega (arith, split, many, count, length-map level taken_step, length-map rest taken_step, length-map pending taken_step);
+              omega (arith, split, many, count, length-map level step_of, length-map rest step_of, length-map pending step_of);
         }
 
     -- the leak is spanned
-    pub levelling_ends : (levels : List (List Step)) (steps : List Levelled) (pending : List Taken) (rows : List (Columns C))
+    pub levelling_ends : (levels : List (List Step)) (steps : List Levelled) (pending : List Operand) (rows : List (Columns C))
         → Levelling levels steps pending rows → leak ≢ empty → InSpan rows leak → ReachLeak products leak steps
     levelling_ends [] steps pending rows l nonempty spanned = absurd (nonempty (in_none leak ((l.same_span leak).0 spanned)))
     levelling_ends (last ∷ lower) steps pending rows l nonempty spanned = record {
@@ -223,12 +224,12 @@ module _ {C : Type 0} (products : List (Product C)) where
               leak chain.1;
         }))
 
-    pub levelling_is_stuck : (levels : List (List Step)) (steps : List Levelled) (pending level rest : List Taken) (rows : List (Columns C))
+    pub levelling_is_stuck : (levels : List (List Step)) (steps : List Levelled) (pending level rest : List Operand) (rows : List (Columns C))
         → Levelling levels steps pending rows → ¬ InSpan rows leak → IsSplit products leak rows pending level rest → length level ≡ 0
         → ¬ IsClosed products leak
     levelling_is_stuck levels steps pending level rest rows l not_yet s nothing (chain, is_chain, closed) =
         let next = next_level levels steps pending level rest rows l s in
-        let no_step : taken_steps level ≡ [] = ap taken_steps (nil_from_length level nothing) in
+        let no_step : operand_steps level ≡ [] = ap operand_steps (nil_from_length level nothing) in
         all_reached levels
         (λ step m has. not_in_none step (subst (λ (xs : List Step). Contains xs step) no_step (in_those (HasNextLevel products leak levels) next step m has)))
         chain is_chain

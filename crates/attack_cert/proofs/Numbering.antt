@@ -5,11 +5,12 @@ use Rattle.std.specs.List.{Contains}
 use Rattle.std.proofs.lemmas.Bool.{cases_lt}
 use Rattle.std.proofs.lemmas.List.{length-map, get_or-map, get_or-set_same, get_or-set_other, get_or_default}
 use Rattle.span_model.specs.Closure.{Step as ProductStep}
-use Rattle.attack_text.specs.declared.attack.Side.TheVariants.{Left}
-use Rattle.attack_text.specs.declared.attack.Step.{Step}
-use Rattle.attack_probes.specs.Derivations.{step_at, product_step}
+use Rattle.linear_view.specs.declared.operand.Side.TheVariants.{Left}
+use Rattle.linear_view.specs.Sides.{step_of}
+use Rattle.attack_model.specs.declared.attack.Step.{Step}
+use Rattle.attack_probes.specs.Derivations.{product_step}
+use Rattle.attack_model.specs.Derivations.{step_at}
 use Rattle.attack_cert.specs.Derivation.{places_of}
-use Rattle.attack_cert.specs.Taken.{taken_step}
 use Rattle.attack_cert.specs.Kept.{levelled_at, kept_places, StandFor, AreNumbered}
 use Rattle.attack_cert.specs.declared.levels.Levelled.{Levelled}
 use Rattle.attack_cert.specs.declared.reached.Kept.{Kept}
@@ -18,8 +19,8 @@ use Rattle.attack_cert.proofs.Picks.{IsRising, rising_once}
 -- a step that is kept, with its numbers
 abbrev pub numbered_step : List Levelled → List ℕ → Kept → Step
 numbered_step listed numbers kept = record {
-  product = (levelled_at listed kept.place).taken.product;
-  side = (levelled_at listed kept.place).taken.side;
+  product = (levelled_at listed kept.place).operand.product;
+  side = (levelled_at listed kept.place).operand.side;
   uses = map (slice_index numbers) kept.uses;
 }
 
@@ -80,6 +81,6 @@ are_numbered listed root numbers numbered_root kept steps have root_kept uses_ke
           (stand_for numbers places (get_or kept number none).uses have (uses_kept number none h));
       root_uses = subst (λ (ns : List ℕ). StandFor places ns root) (sym root_is) (stand_for numbers places root have root_kept);
     } where
-      same_steps : (kept : List Kept) → map product_step (map (numbered_step listed numbers) kept) ≡ map (λ place. taken_step (levelled_at listed place).taken) (kept_places kept)
+      same_steps : (kept : List Kept) → map product_step (map (numbered_step listed numbers) kept) ≡ map (λ place. step_of (levelled_at listed place).operand) (kept_places kept)
       same_steps [] = refl
-      same_steps (step ∷ kept) = ap (λ (ss : List ProductStep). taken_step (levelled_at listed step.place).taken ∷ ss) (same_steps kept)
+      same_steps (step ∷ kept) = ap (λ (ss : List ProductStep). step_of (levelled_at listed step.place).operand ∷ ss) (same_steps kept)

@@ -7,7 +7,8 @@ use Rattle.span_model.specs.Columns.{Columns}
 use Rattle.span_model.specs.Attack.{Product}
 use Rattle.span_model.specs.Closure.{operand, co_operand}
 use Rattle.span_select.specs.Selection.{AreLeastNumbers}
-use Rattle.attack_cert.specs.Taken.{taken_step, levelled_steps}
+use Rattle.linear_view.specs.Sides.{step_of}
+use Rattle.attack_cert.specs.Levelled.{levelled_steps}
 use Rattle.attack_cert.specs.Kept.{levelled_at, AreSupported, kept_places, IsPlaceReached, by_root, by_step, HasUses, AreReached}
 use Rattle.attack_cert.specs.declared.levels.Levelled.{Levelled}
 use Rattle.attack_cert.specs.declared.reached.Kept.{Kept}
@@ -120,12 +121,12 @@ module _ {C : Type 0} (products : List (Product C)) (leak : Columns C) (listed :
       let bound = s.lower place h in
       let count = length-map (take lower (levelled_steps listed)) (co_operand products) in
       let many = length-take lower (levelled_steps listed) in
-      least_within (operand products (taken_step (levelled_at listed place).taken)) (map (co_operand products) (take lower (levelled_steps listed))) leak uses place has (omega arith)
+      least_within (operand products (step_of (levelled_at listed place).operand)) (map (co_operand products) (take lower (levelled_steps listed))) leak uses place has (omega arith)
 
   pub root_below : AreLeastNumbers [] (map (co_operand products) (levelled_steps listed)) leak root → All (λ u. u < length listed) root
   root_below least =
       let count = length-map (levelled_steps listed) (co_operand products) in
-      let many = length-map listed (λ (s : Levelled). taken_step s.taken) in
+      let many = length-map listed (λ (s : Levelled). step_of s.operand) in
       least_within [] (map (co_operand products) (levelled_steps listed)) leak root (length listed) least (omega arith)
 
 pub kept_front : (kept : List Kept) (step : Kept) → reverse (kept ++ step ∷ []) ≡ step ∷ reverse kept

@@ -11,10 +11,12 @@ use Rattle.span_model.specs.Closure.{Step as ProductStep, on_left, operand, co_o
 use Rattle.span_model.proofs.Members.{in_behind}
 use Rattle.span_select.specs.Selection.{IsLeastSelection, AreLeastNumbers, numbers_of}
 use Rattle.span_select.specs.SelectionLaws.{LeastSelections}
-use Rattle.attack_text.specs.declared.attack.Side.{Side}
-use Rattle.attack_text.specs.declared.attack.Side.TheVariants.{Left, Right}
-use Rattle.attack_text.specs.declared.attack.Step.{Step}
-use Rattle.attack_probes.specs.Derivations.{step_at, product_step, product_side}
+use Rattle.linear_view.specs.declared.operand.Side.{Side}
+use Rattle.linear_view.specs.declared.operand.Side.TheVariants.{Left, Right}
+use Rattle.attack_model.specs.declared.attack.Step.{Step}
+use Rattle.attack_probes.specs.Derivations.{product_step}
+use Rattle.linear_view.specs.Sides.{side_of}
+use Rattle.attack_model.specs.Derivations.{step_at}
 use Rattle.attack_cert.specs.Levels.{listed, AreLevels, HasNextLevel}
 use Rattle.attack_cert.specs.Derivation.{listed_at, lower_steps, places_of, IsReached, by_root, by_step, IsDerivation}
 use Rattle.attack_cert.proofs.Those.{those_unique, head_in, in_tail, in_cases, not_in_none}
@@ -235,13 +237,13 @@ module _ {C : Type 0} (products : List (Product C)) (leak : Columns C) where
               (one_selection [] [] (map (co_operand products) (listed levels)) (map (co_operand products) (listed levels)) (places_of places root) (places_of places other_root)
               refl refl k.root_uses l.root_uses),
         ) where
-          same_side : (a b : Side) → product_side a ≡ product_side b → a ≡ b
+          same_side : (a b : Side) → side_of a ≡ side_of b → a ≡ b
           same_side Left Left e = refl
           same_side Left Right e = cc
           same_side Right Left e = cc
           same_side Right Right e = refl
 
-          same_step : (a b : Step) → a.product ≡ b.product → product_side a.side ≡ product_side b.side → a.uses ≡ b.uses → a ≡ b
+          same_step : (a b : Step) → a.product ≡ b.product → side_of a.side ≡ side_of b.side → a.uses ≡ b.uses → a ≡ b
           same_step a b e f g =
               ap (λ (p : ℕ). let s : Step = record { product = p; side = a.side; uses = a.uses } in s) e
               ∙ ap (λ (p : Side). let s : Step = record { product = b.product; side = p; uses = a.uses } in s) (same_side a.side b.side f)

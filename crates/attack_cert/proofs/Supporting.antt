@@ -9,10 +9,11 @@ use Rattle.span_model.specs.Columns.{Columns}
 use Rattle.span_model.specs.Span.{InSpan}
 use Rattle.span_model.specs.Attack.{Product}
 use Rattle.span_model.specs.Closure.{Step, on_left, operand, co_operands}
-use Rattle.attack_text.specs.declared.attack.Side.TheVariants.{Left}
+use Rattle.linear_view.specs.declared.operand.Side.TheVariants.{Left}
+use Rattle.linear_view.specs.Sides.{step_of}
 use Rattle.attack_cert.specs.Levels.{listed, HasNextLevel, AreLevels}
 use Rattle.attack_cert.specs.Derivation.{listed_at, lower_steps}
-use Rattle.attack_cert.specs.Taken.{taken_step, levelled_steps, lower_counts, AreListed, ReachLeak}
+use Rattle.attack_cert.specs.Levelled.{levelled_steps, lower_counts, AreListed, ReachLeak}
 use Rattle.attack_cert.specs.Kept.{levelled_at, AreSupported}
 use Rattle.attack_cert.specs.declared.levels.Levelled.{Levelled}
 use Rattle.attack_cert.proofs.Those.{those_hold, those_within, steps_below}
@@ -75,15 +76,15 @@ lower_first (level ∷ lower) place h = elim (leb_tells (length (listed lower)) 
 
 -- what the levels say of a listed step
 pub at_listed : (levels : List (List Step)) (steps : List Levelled) → AreListed levels steps → (place : ℕ) → place < length steps
-    → taken_step (levelled_at steps place).taken ≡ listed_at (listed levels) place
+    → step_of (levelled_at steps place).operand ≡ listed_at (listed levels) place
 at_listed levels steps l place h =
-    sym (get_or-map (λ (s : Levelled). taken_step s.taken) steps place (record { taken = record { product = 0; side = Left }; lower = 0 }) (record { product = 0; side = on_left }) h)
+    sym (get_or-map (λ (s : Levelled). step_of s.operand) steps place (record { operand = record { product = 0; side = Left }; lower = 0 }) (record { product = 0; side = on_left }) h)
     ∙ ap (λ (xs : List Step). listed_at xs place) l.same
 
 count_listed : (levels : List (List Step)) (steps : List Levelled) → AreListed levels steps → (place : ℕ) → place < length steps
     → (levelled_at steps place).lower ≡ get_or (lower_counts levels) place 0
 count_listed levels steps l place h =
-    sym (get_or-map (λ (s : Levelled). s.lower) steps place (record { taken = record { product = 0; side = Left }; lower = 0 }) 0 h)
+    sym (get_or-map (λ (s : Levelled). s.lower) steps place (record { operand = record { product = 0; side = Left }; lower = 0 }) 0 h)
     ∙ ap (λ (xs : List ℕ). get_or xs place 0) l.lower
 
 pub lower_listed : (levels : List (List Step)) (steps : List Levelled) → AreListed levels steps → (place : ℕ) → place < length steps
@@ -128,7 +129,7 @@ module _ {C : Type 0} (products : List (Product C)) (leak : Columns C) where
   ]
 
   pub listed_spans : (levels : List (List Step)) (steps : List Levelled) → AreLevels products leak levels → AreListed levels steps → (place : ℕ) → place < length steps
-      → Spans (taken_step (levelled_at steps place).taken) (take (levelled_at steps place).lower (levelled_steps steps))
+      → Spans (step_of (levelled_at steps place).operand) (take (levelled_at steps place).lower (levelled_steps steps))
   listed_spans levels steps h l place lt =
       let within : place < length (listed levels) = let e = length_listed levels steps l in omega arith in
       subst (λ (s : Step). Spans s (take (levelled_at steps place).lower (levelled_steps steps))) (sym (at_listed levels steps l place lt))
@@ -137,10 +138,10 @@ module _ {C : Type 0} (products : List (Product C)) (leak : Columns C) where
   pub supported : (steps : List Levelled) → ReachLeak products leak steps → AreSupported products leak steps
   supported steps r =
       let levels : List (List Step) = r.last ∷ r.lower in
-      let none : Levelled = record { taken = record { product = 0; side = Left }; lower = 0 } in
+      let none : Levelled = record { operand = record { product = 0; side = Left }; lower = 0 } in
       record {
         within = λ k d lt.
-            subst (λ (s : Levelled). s.taken.product < length products) (get_or_default steps k none d lt) (listed_spans levels steps r.levels r.are_listed k lt).within;
+            subst (λ (s : Levelled). s.operand.product < length products) (get_or_default steps k none d lt) (listed_spans levels steps r.levels r.are_listed k lt).within;
         lower = λ place lt.
             let within : place < length (listed levels) = let e = length_listed levels steps r.are_listed in omega arith in
             let e = count_listed levels steps r.are_listed place lt in

@@ -6,8 +6,9 @@ use Rattle.span_model.specs.Span.{InSpan}
 use Rattle.span_model.specs.Attack.{Product}
 use Rattle.span_model.specs.Closure.{on_left, operand, co_operand, co_operands, Step as ProductStep}
 use Rattle.span_select.specs.Selection.{AreLeastNumbers}
-use Rattle.attack_text.specs.declared.attack.Step.{Step}
-use Rattle.attack_probes.specs.Derivations.{step_at, product_step}
+use Rattle.attack_model.specs.declared.attack.Step.{Step}
+use Rattle.attack_probes.specs.Derivations.{product_step}
+use Rattle.attack_model.specs.Derivations.{step_at}
 use Rattle.attack_cert.specs.Levels.{listed, AreLevels}
 
 -- the step that is listed at this place

@@ -4,11 +4,12 @@ use Rattle.span_model.specs.Columns.{Columns, set_of}
 use Rattle.span_model.specs.Attack.{Product, IsLeak}
 use Rattle.linear_view.specs.View.{LinearView, IsView, products_of}
 use Rattle.attack_text.specs.AttackText.{attack_text}
-use Rattle.attack_text.specs.Ranges.{InRange}
+use Rattle.attack_model.specs.Ranges.{InRange}
 use Rattle.attack_text.specs.Reading.{attack_of}
-use Rattle.attack_text.specs.declared.attack.Attack.{Attack}
-use Rattle.attack_text.specs.declared.attack.Step.{Step}
-use Rattle.attack_probes.specs.Derivations.{IsInOrder, IsSound}
+use Rattle.attack_model.specs.declared.attack.Attack.{Attack}
+use Rattle.attack_model.specs.declared.attack.Step.{Step}
+use Rattle.attack_probes.specs.Derivations.{IsSound}
+use Rattle.attack_model.specs.Derivations.{IsInOrder}
 use Rattle.attack_probes.specs.Listings.{Lists, Holds}
 use Rattle.attack_probes.specs.Unfolding.{unfolding_of}
 use Rattle.attack_cert.specs.Derivation.{IsDerivation}

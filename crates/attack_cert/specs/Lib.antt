@@ -1,5 +1,5 @@
 pub mod Levels
 pub mod Derivation
 pub mod DerivationLaws
-pub mod Taken
 pub mod Kept
+pub mod Levelled

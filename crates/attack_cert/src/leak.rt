@@ -4,17 +4,17 @@ ghost use Rattle.span_model.specs.Attack.{IsLeak, IsAttack};
 ghost use Rattle.span_model.specs.Closure.{co_operand};
 ghost use Rattle.span_select.specs.RowGroups.{group_sets};
 ghost use Rattle.linear_view.specs.View.{products_of};
-ghost use Rattle.attack_probes.specs.Derivations.{IsInOrder, IsSound};
+ghost use Rattle.attack_model.specs.Derivations.{IsInOrder};
+ghost use Rattle.attack_probes.specs.Derivations.{IsSound};
 ghost use Rattle.attack_probes.specs.Unfolding.{unfolding_of};
 ghost use Rattle.attack_cert.specs.Derivation.{IsDerivation};
-ghost use Rattle.attack_cert.specs.Taken.{levelled_steps, ReachLeak};
+ghost use Rattle.attack_cert.specs.Levelled.{levelled_steps, ReachLeak};
 
 use crate::levels::{Levelled, levelled_steps};
 use crate::numbers::{Numbered, with_numbers};
-use crate::operands::co_operand_rows;
 use crate::reached::reached_steps;
+use attack_model::Derivation;
 use attack_probes::unfolding_is_attack;
-use attack_text::Derivation;
 use gf2_span::BitRow;
 use linear_view::View;
 use span_select::Groups;
@@ -66,13 +66,13 @@ fn numbered_steps(
 
 // The co-operands of the listed steps.
 fn co_operand_groups(alloc: Global, view: &View, listed: &[Levelled]) -> Result<Groups, AllocError>
-    requires { All (λ step. step.taken.product < length view.now.products) listed.now }
+    requires { All (λ step. step.operand.product < length view.now.products) listed.now }
     ensures columns { IfOk result (λ groups. groups.columns ≡ length view.now.columns) }
     ensures groups { IfOk result (λ groups. group_sets groups ≡ map (co_operand (products_of view.now)) (levelled_steps listed.now)) }
 {
     let mut groups = Groups::new(alloc, view.columns())?;
     for step in listed {
-        groups.push(alloc, co_operand_rows(view, step.taken))?;
+        groups.push(alloc, view.co_operand(step.operand))?;
     }
     Ok(groups)
 }

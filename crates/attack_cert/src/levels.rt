@@ -6,10 +6,9 @@ ghost use Rattle.span_model.specs.Closure.{co_operands, IsClosed};
 ghost use Rattle.gf2_span.specs.Basis.{row_sets};
 ghost use Rattle.linear_view.specs.View.{products_of};
 ghost use Rattle.attack_cert.specs.Levels.{steps_of};
-ghost use Rattle.attack_cert.specs.Taken.{taken_steps, IsSplit, ReachLeak};
+ghost use Rattle.attack_cert.specs.Levelled.{operand_steps, IsSplit, ReachLeak};
 
-use crate::operands::{Taken, co_operand_rows, operand_rows};
-use attack_text::Side;
+use attack_model::{Operand, Side};
 use gf2_span::{BitRow, Span};
 use linear_view::View;
 use std::alloc::{AllocError, Global};
@@ -17,15 +16,15 @@ use std::alloc::{AllocError, Global};
 /// A step that has a level, and how many steps have lower ones.
 #[derive(Debug, Clone, Copy)]
 pub(crate) struct Levelled {
-    pub taken: Taken,
+    pub operand: Operand,
     pub lower: u32,
 }
 
 // Operands that span the leak with what is known, and others.
 #[derive(Drop)]
 struct Split {
-    level: Vec<Taken>,
-    rest: Vec<Taken>,
+    level: Vec<Operand>,
+    rest: Vec<Operand>,
 }
 
 /// The steps up to the level at which the co-operands of all of them span the leak, in the order in which they are listed.
@@ -58,16 +57,16 @@ pub(crate) fn levelled_steps(
 }
 
 // Every operand of every product, left before right.
-fn all_operands(alloc: Global, view: &View) -> Result<Vec<Taken>, AllocError>
-    ensures { IfOk result (λ operands. taken_steps operands.items ≡ steps_of (length view.now.products)) }
+fn all_operands(alloc: Global, view: &View) -> Result<Vec<Operand>, AllocError>
+    ensures { IfOk result (λ operands. operand_steps operands.items ≡ steps_of (length view.now.products)) }
 {
     let mut operands = Vec::new(alloc);
     for product in 0..view.products() {
-        operands.push(Taken {
+        operands.push(Operand {
             product,
             side: Side::Left,
         })?;
-        operands.push(Taken {
+        operands.push(Operand {
             product,
             side: Side::Right,
         })?;
@@ -92,38 +91,37 @@ fn next_level(
     view: &View,
     leak: &BitRow,
     span: &Span,
-    pending: &[Taken],
+    pending: &[Operand],
 ) -> Result<Split, AllocError>
     requires leak { length leak.now ≡ length view.now.columns }
     requires span { span.now.columns ≡ length view.now.columns }
-    requires products { All (λ taken. taken.product < length view.now.products) pending.now }
+    requires products { All (λ operand. operand.product < length view.now.products) pending.now }
     ensures { IfOk result (λ split. IsSplit (products_of view.now) (set_of leak.now) (row_sets span.now) pending.now split.level.items split.rest.items) }
 {
     // reduced once, so that no operand's test reduces the leak by the whole span again
     let left = remainder(alloc, span, leak)?;
     let mut level = Vec::new(alloc);
     let mut rest = Vec::new(alloc);
-    for taken in pending {
-        let rows = operand_rows(view, *taken);
-        let spans = span.spans_with(alloc, rows, &left)?;
+    for operand in pending {
+        let spans = span.spans_with(alloc, view.operand(*operand), &left)?;
         if spans {
-            level.push(*taken)?;
+            level.push(*operand)?;
         } else {
-            rest.push(*taken)?;
+            rest.push(*operand)?;
         }
     }
     Ok(Split { level, rest })
 }
 
 // Lists the steps of a level behind those of the lower ones.
-fn list(steps: &mut Vec<Levelled>, level: &[Taken]) -> Result<(), AllocError>
+fn list(steps: &mut Vec<Levelled>, level: &[Operand]) -> Result<(), AllocError>
     requires { length steps.old.items < 2 ^ 32 }
-    ensures { OnOk result (steps.new.items ≡ steps.old.items ++ map (λ taken. record { taken = taken; lower = length steps.old.items }) level.now) }
+    ensures { OnOk result (steps.new.items ≡ steps.old.items ++ map (λ operand. record { operand = operand; lower = length steps.old.items }) level.now) }
 {
     let lower = steps.len() as u32;
-    for taken in level {
+    for operand in level {
         steps.push(Levelled {
-            taken: *taken,
+            operand: *operand,
             lower,
         })?;
     }
@@ -134,28 +132,16 @@ fn list(steps: &mut Vec<Levelled>, level: &[Taken]) -> Result<(), AllocError>
 fn add_co_operands(
     alloc: Global,
     view: &View,
-    level: &[Taken],
+    level: &[Operand],
     span: &mut Span,
 ) -> Result<(), AllocError>
-    requires products { All (λ taken. taken.product < length view.now.products) level.now }
+    requires products { All (λ operand. operand.product < length view.now.products) level.now }
     requires columns { span.old.columns ≡ length view.now.columns }
     ensures columns { span.new.columns ≡ span.old.columns }
-    ensures span { OnOk result (SameSpan (row_sets span.new) (row_sets span.old ++ co_operands (products_of view.now) (taken_steps level.now))) }
+    ensures span { OnOk result (SameSpan (row_sets span.new) (row_sets span.old ++ co_operands (products_of view.now) (operand_steps level.now))) }
 {
-    for taken in level {
-        add_rows(alloc, co_operand_rows(view, *taken), span)?;
-    }
-    Ok(())
-}
-
-// Grows the span by rows.
-fn add_rows(alloc: Global, rows: &[BitRow], span: &mut Span) -> Result<(), AllocError>
-    requires { All (λ row. length row ≡ span.old.columns) rows.now }
-    ensures columns { span.new.columns ≡ span.old.columns }
-    ensures span { OnOk result (SameSpan (row_sets span.new) (row_sets span.old ++ sets_of rows.now)) }
-{
-    for row in rows {
-        let _fresh = span.insert(row.copy(alloc)?)?;
+    for operand in level {
+        span.insert_all(alloc, view.co_operand(*operand))?;
     }
     Ok(())
 }

@@ -5,15 +5,10 @@ mod laws;
 mod leak;
 mod levels;
 mod numbers;
-mod operands;
 mod reached;
-#[cfg(test)]
-mod tests;
 
-pub use attack_probes::{MAX_PROBES, holds, unfold, unfolding_is_attack};
-pub use attack_text::{
-    Attack, CertFault, Derivation, Listing, Probe, Side, Step, read_attack, write_attack,
-    written_is_read,
-};
+pub use attack_model::{Attack, Derivation, Listing, MAX_PROBES, Probe, Side, Step};
+pub use attack_probes::{holds, unfold, unfolding_is_attack};
+pub use attack_text::{CertFault, read_attack, read_is_written, write_attack, written_is_read};
 pub use laws::{derivations_hold, derived_attacks_hold};
 pub use leak::derive;

@@ -5,7 +5,7 @@ ghost use Rattle.attack_cert.specs.Kept.{AreNumbered, kept_places};
 
 use crate::levels::Levelled;
 use crate::reached::{Kept, Reached};
-use attack_text::Step;
+use attack_model::Step;
 use std::alloc::{AllocError, Global};
 use tor_edge::List;
 
@@ -32,10 +32,10 @@ pub(crate) fn with_numbers(
     let numbers = numbers_of(alloc, listed.len(), &reached.kept)?;
     let mut steps = List::new(alloc);
     for kept in &reached.kept {
-        let taken = listed[kept.place as usize].taken;
+        let operand = listed[kept.place as usize].operand;
         steps.push(Step {
-            product: taken.product,
-            side: taken.side,
+            product: operand.product,
+            side: operand.side,
             uses: looked_up(alloc, &numbers, kept.uses.as_slice())?,
         })?;
     }

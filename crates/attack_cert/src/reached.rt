@@ -5,11 +5,10 @@ ghost use Rattle.span_model.specs.Closure.{co_operand};
 ghost use Rattle.span_select.specs.RowGroups.{group_sets};
 ghost use Rattle.span_select.specs.Selection.{AreLeastNumbers};
 ghost use Rattle.linear_view.specs.View.{products_of};
-ghost use Rattle.attack_cert.specs.Taken.{levelled_steps};
+ghost use Rattle.attack_cert.specs.Levelled.{levelled_steps};
 ghost use Rattle.attack_cert.specs.Kept.{AreSupported, AreReached, HasUses};
 
 use crate::levels::Levelled;
-use crate::operands::operand_rows;
 use gf2_span::BitRow;
 use linear_view::View;
 use span_select::Groups;
@@ -125,7 +124,7 @@ fn uses_of(
     ensures { IfOk result (λ uses. HasUses (products_of view.now) (set_of leak.now) listed.now place uses) }
 {
     let step = listed[place];
-    let own = operand_rows(view, step.taken);
+    let own = view.operand(step.operand);
     let uses = groups.least(alloc, own, leak, step.lower)?.unwrap();
     Ok(List::from_vec(uses))
 }

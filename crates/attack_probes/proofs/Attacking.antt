@@ -7,10 +7,13 @@ use Rattle.span_model.specs.Span.{InSpan, Spans}
 use Rattle.span_model.specs.Attack.{Product, Probe, IsProbe, product_at, shown, seen, IsAttack}
 use Rattle.span_model.specs.Closure.{operand as step_operand, co_operand as step_co_operand, co_operands}
 use Rattle.span_model.proofs.Members.{spans_none, spans_both, in_behind, in_front}
-use Rattle.attack_text.specs.declared.attack.Side.{Side}
-use Rattle.attack_text.specs.declared.attack.Side.TheVariants.{Left, Right}
-use Rattle.attack_text.specs.declared.attack.Step.{Step}
-use Rattle.attack_probes.specs.Derivations.{step_at, product_step, product_side, used_steps, IsInOrder, IsSound}
+use Rattle.linear_view.specs.declared.operand.Side.{Side}
+use Rattle.linear_view.specs.declared.operand.Side.TheVariants.{Left, Right}
+use Rattle.attack_model.specs.declared.attack.Step.{Step}
+use Rattle.attack_model.proofs.UseLemmas.{uses_below}
+use Rattle.attack_probes.specs.Derivations.{product_step, used_steps, IsSound}
+use Rattle.linear_view.specs.Sides.{side_of}
+use Rattle.attack_model.specs.Derivations.{step_at, IsInOrder}
 use Rattle.attack_probes.specs.Unfolding.{probe_on, in_turn, unfolded, unfolding_of}
 
 -- each probe is of one of so many products, on shares below a bound
@@ -52,14 +55,14 @@ module _ {C : Type 0} where
 
   -- a use shows the step's operand on its own share, and its co-operand on the share that uses it
   own_shows : (products : List (Product C)) (step : Step) (side : Side) (own user : ℕ) → step.side ≡ side
-      → Spans (shown products (probe_on side step.product own user) own) (step_operand products (record { product = step.product; side = product_side side }))
+      → Spans (shown products (probe_on side step.product own user) own) (step_operand products (record { product = step.product; side = side_of side }))
   own_shows products step Left own user e v m =
       in_behind _ _ v (spans_shown (product_at products step.product).left (eqb own own) (eq-eqb own own refl) v m)
   own_shows products step Right own user e v m =
       in_front (cond (eqb user own) (product_at products step.product).left []) _ v (spans_shown (product_at products step.product).right (eqb own own) (eq-eqb own own refl) v m)
 
   user_shows : (products : List (Product C)) (product : ℕ) (side : Side) (own user : ℕ)
-      → Spans (shown products (probe_on side product own user) user) (step_co_operand products (record { product = product; side = product_side side }))
+      → Spans (shown products (probe_on side product own user) user) (step_co_operand products (record { product = product; side = side_of side }))
   user_shows products product Left own user v m =
       in_front (cond (eqb own user) (product_at products product).left []) _ v (spans_shown (product_at products product).right (eqb user user) (eq-eqb user user refl) v m)
   user_shows products product Right own user v m =
@@ -148,12 +151,12 @@ module _ {C : Type 0} where
         (sound.derived k (record { product = 0; side = Left; uses = [] }) within)
         before
         (shows_in_turn products leak steps (unfolded levels steps) step.uses new (suc new) (omega arith)
-        (λ j d inside own next before. let below = (order.earlier k within).below j d inside in
+        (λ j d inside own next before. let below = uses_below k (step_at steps k).uses (order.earlier k within) j d inside in
         shows_unfolded levels _ own next (omega arith) (omega arith) before))
 
     shows_root : Shows products leak 0 1 (unfolding_of steps root) (co_operands products (used_steps steps root))
     shows_root = shows_in_turn products leak steps (unfolded (length steps) steps) root 0 1 (omega arith)
-        (λ j d inside own next before. let below = order.within.below j d inside in
+        (λ j d inside own next before. let below = uses_below (length steps) root order.within j d inside in
         shows_unfolded (length steps) _ own next below below before)
 
     on_each : (s : ℕ) → s ≤ length (unfolding_of steps root) → InSpan (seen products (unfolding_of steps root) s) leak

@@ -3,9 +3,10 @@ use Rattle.std.proofs.Common.{◌≡◌, ◌<◌, ◌≤◌, ◌+◌, ℕ, suc, 
 use Rattle.std.proofs.lemmas.Bool.{cases_eq}
 use Rattle.std.proofs.lemmas.List.{get_or_read, get_or_push, get_or_append_left, length_push}
 use Rattle.std.proofs.lemmas.List.Sums.{sum_by-cons}
-use Rattle.attack_text.specs.declared.attack.Side.TheVariants.{Left}
-use Rattle.attack_text.specs.declared.attack.Step.{Step}
-use Rattle.attack_probes.specs.Derivations.{step_at, AreUses}
+use Rattle.linear_view.specs.declared.operand.Side.TheVariants.{Left}
+use Rattle.attack_model.specs.declared.attack.Step.{Step}
+use Rattle.attack_model.specs.Derivations.{step_at, AreUses}
+use Rattle.attack_model.proofs.UseLemmas.{uses_below}
 use Rattle.attack_probes.specs.Unfolding.{unfolding_of}
 use Rattle.attack_probes.proofs.Levels.{size, size_step, length-unfolding}
 
@@ -29,11 +30,11 @@ pub counts_below : (many : ℕ) (steps : List Step) (counts : List ℕ) (n : ℕ
 counts_below many steps counts n first uses below =
     stopped_sum many (λ k. get_or counts k 0) (size (length steps) steps) uses (λ j d lt. first.counted _ (below j d lt))
 
-pub uses_below : (steps : List Step) (index : ℕ) (step : Step) → ((k : ℕ) → k < length steps → AreUses k (step_at steps k).uses)
+pub step_uses_below : (steps : List Step) (index : ℕ) (step : Step) → ((k : ℕ) → k < length steps → AreUses k (step_at steps k).uses)
     → index < length steps → step ≡ get_or steps index step → All (λ k. k < index) step.uses
-uses_below steps index step earlier within is =
+step_uses_below steps index step earlier within is =
     let at : step ≡ step_at steps index = get_or_read steps index step within is (record { product = 0; side = Left; uses = [] }) in
-    subst (λ (x : Step). All (λ k. k < index) x.uses) (sym at) (earlier index within).below
+    subst (λ (x : Step). All (λ k. k < index) x.uses) (sym at) (uses_below index (step_at steps index).uses (earlier index within))
 
 -- the count of one more step
 pub counts_more : (many : ℕ) (steps : List Step) (counts : List ℕ) (index : ℕ) (step : Step) (below count : ℕ)
@@ -43,7 +44,7 @@ pub counts_more : (many : ℕ) (steps : List Step) (counts : List ℕ) (index : 
     → AreFirstCounts many steps (counts ++ count ∷ []) (index + 1)
 counts_more many steps counts index step below count earlier within is first of_uses of_step =
     let at : step ≡ step_at steps index = get_or_read steps index step within is (record { product = 0; side = Left; uses = [] }) in
-    let sum = counts_below many steps counts index first step.uses (uses_below steps index step earlier within is) in
+    let sum = counts_below many steps counts index first step.uses (step_uses_below steps index step earlier within is) in
     let whole : size (length steps) steps index ≡ suc (sum_by (size (length steps) steps) step.uses) =
     subst (λ (x : Step). size (length steps) steps index ≡ suc (sum_by (size (length steps) steps) x.uses)) (sym at) (size_step steps earlier index within) in
     let last : count ≡ min (size (length steps) steps index) many = omega arith in

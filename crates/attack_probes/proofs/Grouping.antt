@@ -1,7 +1,7 @@
 -- Operands that are put to their shares, probe by probe.
 use Rattle.std.proofs.Common.{◌≡◌, ◌≤◌, ◌+◌, ℕ, List, [], length, take, get_or}
-use Rattle.attack_text.specs.declared.attack.Probe.{Probe}
-use Rattle.attack_probes.specs.declared.holding.Operand.{Operand}
+use Rattle.attack_model.specs.declared.attack.Probe.{Probe}
+use Rattle.linear_view.specs.declared.operand.Operand.{Operand}
 use Rattle.attack_probes.specs.Operands.{operands_at}
 
 -- the operands of the first so many probes are at their shares

@@ -2,8 +2,9 @@
 use Rattle.std.proofs.Common.{◌≡◌, ◌<◌, ◌+◌, ℕ, zero, suc, List, [], ◌∷◌, ◌++◌, length, All, refl, sym, ap, ◌∙◌, subst, arith, sum_by, length-append}
 use Rattle.std.proofs.lemmas.List.Sums.{sum_by-cons}
 use Rattle.span_model.specs.Attack.{Probe}
-use Rattle.attack_text.specs.declared.attack.Step.{Step}
-use Rattle.attack_probes.specs.Derivations.{step_at, AreUses}
+use Rattle.attack_model.specs.declared.attack.Step.{Step}
+use Rattle.attack_model.specs.Derivations.{step_at, AreUses}
+use Rattle.attack_model.proofs.UseLemmas.{uses_below}
 use Rattle.attack_probes.specs.Unfolding.{probe_on, in_turn, unfolded}
 
 length-in_turn : (probes_of_use : ℕ → ℕ → ℕ → List Probe) (size : ℕ → ℕ) → ((k user new : ℕ) → length (probes_of_use k user new) ≡ size k)
@@ -49,7 +50,7 @@ module _ (steps : List Step) (earlier : (k : ℕ) → k < length steps → AreUs
   same_levels (suc levels) (suc more) k user new a b within =
       ap (λ x. probe_on (step_at steps k).side (step_at steps k).product new user ∷ x)
       (same-in_turn (unfolded levels steps) (unfolded more steps) (step_at steps k).uses
-      (λ j d inside own next. let below = (earlier k within).below j d inside in
+      (λ j d inside own next. let below = uses_below k (step_at steps k).uses (earlier k within) j d inside in
       same_levels levels more _ own next (omega arith) (omega arith) (omega arith)) new (suc new))
 
   -- a use unfolds to its probe, and then to the step's own uses

@@ -6,4 +6,3 @@ pub mod Spanning
 pub mod Reading
 pub mod Grouping
 pub mod Verdicts
-pub mod Ranges

@@ -1,65 +1,25 @@
 -- The rows of operands of a view's products, and of those that probes show.
-use Rattle.std.proofs.Common.{◌≡◌, ◌<◌, ◌+◌, ℕ, List, [], ◌∷◌, ◌++◌, Bool, true, false, cond, eqb, length, map, take, All, get_or, refl, sym, ap, ◌∙◌, subst, Some, None}
-use Rattle.std.specs.Prelude.{slice_get}
-use Rattle.std.specs.Option.{option_map}
-use Rattle.std.proofs.lemmas.Option.{slice_get-get_or}
+use Rattle.std.proofs.Common.{◌≡◌, ◌<◌, ◌+◌, ℕ, List, [], ◌∷◌, ◌++◌, Bool, true, false, cond, eqb, length, map, take, All, get_or, refl, sym, ap, ◌∙◌, subst}
 use Rattle.std.proofs.lemmas.List.{append-nil, get_or-map, take_more, map_push, get_or_read}
 use Rattle.std.proofs.lemmas.List.Concat.{flat_map-append}
 use Rattle.std.proofs.lemmas.List.Elements.{All-append, All-cons, All-nil, All-head, All-tail}
 use Rattle.span_model.specs.Columns.{Columns, sets_of}
 use Rattle.span_model.specs.Span.{SameSpan}
 use Rattle.span_model.specs.Attack.{Product, product_at, shown, seen, IsProbe}
-use Rattle.span_model.specs.Closure.{side_of, co_operand as plain_co_operand, co_operands as plain_co_operands}
-use Rattle.linear_view.specs.View.{LinearView, Operands, AreOperands, IsView, product_of, products_of}
-use Rattle.attack_text.specs.declared.attack.Probe.{Probe}
-use Rattle.attack_text.specs.declared.attack.Side.{Side}
-use Rattle.attack_text.specs.declared.attack.Side.TheVariants.{Left, Right}
-use Rattle.attack_text.specs.declared.attack.Step.{Step}
-use Rattle.attack_probes.specs.declared.holding.Operand.{Operand}
-use Rattle.attack_probes.specs.Derivations.{product_side, used_steps, step_at}
-use Rattle.attack_probes.specs.Listings.{probe_of, probes_of}
+use Rattle.span_model.specs.Closure.{co_operand as plain_co_operand, co_operands as plain_co_operands}
+use Rattle.linear_view.specs.View.{LinearView, products_of}
+use Rattle.attack_model.specs.declared.attack.Probe.{Probe}
+use Rattle.linear_view.specs.declared.operand.Side.{Side}
+use Rattle.linear_view.specs.declared.operand.Side.TheVariants.{Left, Right}
+use Rattle.attack_model.specs.declared.attack.Step.{Step}
+use Rattle.linear_view.specs.declared.operand.Operand.{Operand}
+use Rattle.attack_probes.specs.Derivations.{used_steps}
+use Rattle.linear_view.specs.Sides.{side_of, other_side, step_of, co_operand}
+use Rattle.attack_model.specs.Derivations.{step_at, operand_of}
+use Rattle.attack_probes.specs.Listings.{probes_of}
+use Rattle.attack_model.specs.Ranges.{probe_of}
 use Rattle.attack_probes.proofs.Spanning.{same_append}
-use Rattle.attack_probes.specs.Operands.{operand_rows, rows_of, rows_on, opposite, co_operand, co_operands_of, shown_operands, operands_at}
-
-no_operands : Operands
-no_operands = record { left = []; right = [] }
-
-rows_on_side : (products : List Operands) (k : ℕ) (side : Side) → k < length products
-    → sets_of (rows_on side (get_or products k no_operands)) ≡ side_of (product_at (map product_of products) k) (product_side side)
-rows_on_side products k Left lt =
-    ap (λ (x : Product ℕ). x.left) (sym (get_or-map product_of products k no_operands (record { left = []; right = [] }) lt))
-rows_on_side products k Right lt =
-    ap (λ (x : Product ℕ). x.right) (sym (get_or-map product_of products k no_operands (record { left = []; right = [] }) lt))
-
-columns_on_side : (columns : ℕ) (operands : Operands) (side : Side) → AreOperands columns operands → All (λ row. length row ≡ columns) (rows_on side operands)
-columns_on_side columns operands Left are = are.left_columns
-columns_on_side columns operands Right are = are.right_columns
-
--- what the rows of an operand are that were read from a view
-pub record IsRead (view : LinearView) (operand : Operand) (rows : List (List Bool)) : Type 0 where
-  pub same : sets_of rows ≡ operand_rows (products_of view) operand
-  pub wide : All (λ row. length row ≡ length view.columns) rows
-
-pub read_rows : (view : LinearView) (operand : Operand) (rows : List (List Bool)) → IsView view → operand.product < length view.products
-    → Some rows ≡ option_map (rows_on operand.side) (slice_get view.products operand.product) → IsRead view operand rows
-read_rows view operand rows is lt read =
-    let there = slice_get-get_or view.products operand.product no_operands lt in
-    let some : Some rows ≡ Some (rows_on operand.side (get_or view.products operand.product no_operands)) =
-    read ∙ ap (option_map (rows_on operand.side)) there in
-    let same : rows ≡ rows_on operand.side (get_or view.products operand.product no_operands) = cc in
-    record {
-      same = ap sets_of same ∙ rows_on_side view.products operand.product operand.side lt;
-      wide = subst (λ (x : List (List Bool)). All (λ row. length row ≡ length view.columns) x) (sym same)
-          (columns_on_side (length view.columns) (get_or view.products operand.product no_operands) operand.side (is.operands operand.product no_operands lt));
-    }
-
-pub read_some : (view : LinearView) (operand : Operand) → operand.product < length view.products
-    → None ≡ option_map (rows_on operand.side) (slice_get view.products operand.product) → ⊥
-read_some view operand lt none =
-    let there = slice_get-get_or view.products operand.product no_operands lt in
-    let some : None ≡ Some (rows_on operand.side (get_or view.products operand.product no_operands)) =
-    none ∙ ap (option_map (rows_on operand.side)) there in
-    cc
+use Rattle.attack_probes.specs.Operands.{operand_rows, rows_of, co_operands_of, shown_operands, operands_at}
 
 module _ {C : Type 0} where
   pub rows_of-append : (products : List (Product C)) (a b : List Operand) → rows_of products (a ++ b) ≡ rows_of products a ++ rows_of products b
@@ -74,8 +34,8 @@ module _ {C : Type 0} where
       rows_of-append products operands (operand ∷ []) ∙ ap (λ x. rows_of products operands ++ x) (rows_of_one products operand)
 
   co_operand_rows : (products : List (Product C)) (step : Step) (side : Side) → step.side ≡ side
-      → operand_rows products (record { product = step.product; side = opposite side })
-      ≡ plain_co_operand products (record { product = step.product; side = product_side side })
+      → operand_rows products (record { product = step.product; side = other_side side })
+      ≡ plain_co_operand products (record { product = step.product; side = side_of side })
   co_operand_rows products step Left e = refl
   co_operand_rows products step Right e = refl
 
@@ -85,7 +45,7 @@ module _ {C : Type 0} where
   used_rows products steps [] = refl
   used_rows products steps (k ∷ uses) =
       let step = step_at steps k in
-      ap (λ x. operand_rows products (co_operand step) ++ x) (used_rows products steps uses)
+      ap (λ x. operand_rows products (co_operand (operand_of step)) ++ x) (used_rows products steps uses)
       ∙ ap (λ x. x ++ plain_co_operands products (used_steps steps uses)) (co_operand_rows products step step.side refl)
 
   shown_if : (products : List (Product C)) (operand : Operand) (b : Bool)
@@ -112,12 +72,12 @@ module _ {C : Type 0} where
 -- one more use
 pub co_operands_more : (steps : List Step) (uses : List ℕ) (index k : ℕ) (step : Step) (operands : List Operand) → index < length uses
     → k ≡ get_or uses index k → k < length steps → step ≡ get_or steps k step → operands ≡ co_operands_of steps (take index uses)
-    → operands ++ co_operand step ∷ [] ≡ co_operands_of steps (take (index + 1) uses)
+    → operands ++ co_operand (operand_of step) ∷ [] ≡ co_operands_of steps (take (index + 1) uses)
 co_operands_more steps uses index k step operands within is below at so_far =
     let step_is : step ≡ step_at steps k = get_or_read steps k step below at (record { product = 0; side = Left; uses = [] }) in
-    ap (λ x. x ++ co_operand step ∷ []) so_far
-    ∙ ap (λ (x : Step). co_operands_of steps (take index uses) ++ co_operand x ∷ []) step_is
-    ∙ sym (map_push (λ j. co_operand (step_at steps j)) (take index uses) k)
+    ap (λ x. x ++ co_operand (operand_of step) ∷ []) so_far
+    ∙ ap (λ (x : Step). co_operands_of steps (take index uses) ++ co_operand (operand_of x) ∷ []) step_is
+    ∙ sym (map_push (λ j. co_operand (operand_of (step_at steps j))) (take index uses) k)
     ∙ ap (co_operands_of steps) (ap (λ (x : ℕ). take index uses ++ x ∷ []) is ∙ sym (take_more uses index k within))
 
 shown_among : (n product : ℕ) (side : Side) (b : Bool) → product < n
@@ -140,19 +100,19 @@ pub used_among : (n : ℕ) (steps : List Step) (uses : List ℕ) → All (λ ste
     → All (λ (operand : Operand). operand.product < n) (co_operands_of steps uses)
 used_among n steps [] among below = All-nil (λ (operand : Operand). operand.product < n)
 used_among n steps (k ∷ uses) among below =
-    All-cons (λ (operand : Operand). operand.product < n) (co_operand (step_at steps k)) (co_operands_of steps uses)
+    All-cons (λ (operand : Operand). operand.product < n) (co_operand (operand_of (step_at steps k))) (co_operands_of steps uses)
     (among k (record { product = 0; side = Left; uses = [] }) (All-head (λ k. k < length steps) k uses below))
     (used_among n steps uses among (All-tail (λ k. k < length steps) k uses below))
 
 -- the rows of one more operand
 pub spanned_more : (view : LinearView) (operands : List Operand) (index : ℕ) (d : Operand) (before now : List (Columns ℕ)) (rows : List (List Bool))
-    → index < length operands → IsRead view (get_or operands index d) rows
+    → index < length operands → sets_of rows ≡ operand_rows (products_of view) (get_or operands index d)
     → SameSpan before (rows_of (products_of view) (take index operands)) → SameSpan now (before ++ sets_of rows)
     → SameSpan now (rows_of (products_of view) (take (index + 1) operands))
-spanned_more view operands index d before now rows within read so_far grown =
+spanned_more view operands index d before now rows within are so_far grown =
     let products = products_of view in
     let more : rows_of products (take index operands) ++ sets_of rows ≡ rows_of products (take (index + 1) operands) =
-    ap (λ (x : List (Columns ℕ)). rows_of products (take index operands) ++ x) read.same
+    ap (λ (x : List (Columns ℕ)). rows_of products (take index operands) ++ x) are
     ∙ sym (rows_of_push products (take index operands) (get_or operands index d))
     ∙ ap (rows_of products) (sym (take_more operands index d within)) in
     subst (λ (x : List (Columns ℕ)). SameSpan now x) more (same_append now before (rows_of products (take index operands)) (sets_of rows) so_far grown)

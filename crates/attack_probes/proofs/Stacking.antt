@@ -3,13 +3,15 @@ use Rattle.std.proofs.Common.{◌≡◌, ◌<◌, ◌+◌, ℕ, suc, List, [], �
 use Rattle.std.proofs.lemmas.List.{reverse-append, map-append, append-nil, length_push, get_or_append_left, get_or_read, length-map}
 use Rattle.std.proofs.lemmas.List.Elements.{All-map, All-append, All-push, All-head, All-tail}
 use Rattle.span_model.specs.Attack.{Probe}
-use Rattle.attack_text.specs.declared.attack.Probe.{Probe as Listed}
-use Rattle.attack_text.specs.declared.attack.Side.TheVariants.{Left}
-use Rattle.attack_text.specs.declared.attack.Step.{Step}
+use Rattle.attack_model.specs.declared.attack.Probe.{Probe as Listed}
+use Rattle.linear_view.specs.declared.operand.Side.TheVariants.{Left}
+use Rattle.attack_model.specs.declared.attack.Step.{Step}
+use Rattle.attack_model.proofs.UseLemmas.{uses_below}
 use Rattle.attack_probes.specs.declared.listing.Use.{Use}
-use Rattle.attack_probes.specs.Derivations.{step_at, IsInOrder}
+use Rattle.attack_model.specs.Derivations.{step_at, IsInOrder}
 use Rattle.attack_probes.specs.Unfolding.{probe_on, in_turn, unfolded, unfolding_of}
-use Rattle.attack_probes.specs.Listings.{probe_of, probes_of}
+use Rattle.attack_probes.specs.Listings.{probes_of}
+use Rattle.attack_model.specs.Ranges.{probe_of}
 use Rattle.attack_probes.proofs.Levels.{unfolded_step}
 
 map-reverse : {X Y : Type 0} (f : X → Y) (xs : List X) → map f (reverse xs) ≡ reverse (map f xs)
@@ -73,7 +75,7 @@ pub record IsUnfoldedSoFar (steps : List Step) (root : List ℕ) (probes : List 
 pub unfolds_first : (steps : List Step) (root : List ℕ) → IsInOrder steps root → IsUnfoldedSoFar steps root [] (map (use_under 0) (reverse root))
 unfolds_first steps root order = record {
   whole = ap (λ x. stacked steps x 1) (on_top root 0 []) ∙ stacked_uses steps root 0 [] 1 ∙ append-nil (unfolding_of steps root);
-  among = put_among (length steps) 0 root [] (λ k d lt. absurd (omega arith)) order.within.below;
+  among = put_among (length steps) 0 root [] (λ k d lt. absurd (omega arith)) (uses_below (length steps) root order.within);
 }
 
 module _ (steps : List Step) (root : List ℕ) (probes : List Probe) (stack : List Use) (next : Use) (order : IsInOrder steps root)
@@ -125,7 +127,7 @@ module _ (steps : List Step) (root : List ℕ) (probes : List Probe) (stack : Li
             ∙ append_assoc probes (probe ∷ []) (below ++ rest)
             ∙ parts;
         among = put_among (length steps) own uses stack rest_among
-            (λ k d lt. let below = (order.earlier next.step next_among).below k d lt in let among = next_among in omega arith);
+            (λ k d lt. let below = uses_below next.step (step_at steps next.step).uses (order.earlier next.step next_among) k d lt in let among = next_among in omega arith);
       }
 
 -- the same of a list of listed probes, to which the probe of the next use is added

@@ -9,16 +9,18 @@ use Rattle.span_model.specs.Span.{InSpan, SameSpan}
 use Rattle.span_model.specs.Attack.{Product, IsProbe, IsAttack, IsLeak}
 use Rattle.span_model.specs.Closure.{co_operands as plain_co_operands}
 use Rattle.span_model.proofs.Members.{spans_both, in_behind, in_front}
-use Rattle.attack_text.specs.declared.attack.Derivation.{Derivation}
-use Rattle.attack_text.specs.declared.attack.Listing.{Listing}
-use Rattle.attack_text.specs.declared.attack.Listing.TheVariants.{Probes, Large}
-use Rattle.attack_text.specs.declared.attack.Probe.{Probe}
-use Rattle.attack_text.specs.declared.attack.Step.{Step}
-use Rattle.attack_probes.specs.declared.holding.Operand.{Operand}
-use Rattle.attack_probes.specs.Derivations.{used_steps, IsInOrder, IsDerived, IsSound}
+use Rattle.attack_model.specs.declared.attack.Derivation.{Derivation}
+use Rattle.attack_model.specs.declared.attack.Listing.{Listing}
+use Rattle.attack_model.specs.declared.attack.Listing.TheVariants.{Probes, Large}
+use Rattle.attack_model.specs.declared.attack.Probe.{Probe}
+use Rattle.attack_model.specs.declared.attack.Step.{Step}
+use Rattle.linear_view.specs.declared.operand.Operand.{Operand}
+use Rattle.attack_probes.specs.Derivations.{used_steps, IsDerived, IsSound}
+use Rattle.attack_model.specs.Derivations.{IsInOrder, operand_of}
 use Rattle.attack_probes.specs.Unfolding.{unfolding_of}
-use Rattle.attack_probes.specs.Listings.{probe_of, probes_of, HoldsBy}
-use Rattle.attack_probes.specs.Operands.{rows_of, operand_rows, own_operand, co_operands_of, operands_at}
+use Rattle.attack_probes.specs.Listings.{probes_of, HoldsBy}
+use Rattle.attack_model.specs.Ranges.{probe_of}
+use Rattle.attack_probes.specs.Operands.{rows_of, operand_rows, co_operands_of, operands_at}
 use Rattle.attack_probes.proofs.Attacking.{unfolding_attacks}
 use Rattle.attack_probes.proofs.Reading.{seen_rows, used_rows, rows_of_push}
 use Rattle.attack_probes.proofs.Spanning.{same_in}
@@ -33,14 +35,14 @@ module _ {C : Type 0} where
 
   -- whether a step's own operand, behind the co-operands of its uses, spans the leak
   pub derived_if : (products : List (Product C)) (leak : Columns C) (steps : List Step) (step : Step) (answer : Bool)
-      → MatchBool answer (InSpan (rows_of products (co_operands_of steps step.uses ++ own_operand step ∷ [])) leak)
-      (¬ InSpan (rows_of products (co_operands_of steps step.uses ++ own_operand step ∷ [])) leak)
+      → MatchBool answer (InSpan (rows_of products (co_operands_of steps step.uses ++ operand_of step ∷ [])) leak)
+      (¬ InSpan (rows_of products (co_operands_of steps step.uses ++ operand_of step ∷ [])) leak)
       → MatchBool answer (IsDerived products leak steps step) (¬ IsDerived products leak steps step)
   derived_if products leak steps step answer h =
-      let own = operand_rows products (own_operand step) in
+      let own = operand_rows products (operand_of step) in
       let used = plain_co_operands products (used_steps steps step.uses) in
-      let rows : rows_of products (co_operands_of steps step.uses ++ own_operand step ∷ []) ≡ used ++ own =
-      rows_of_push products (co_operands_of steps step.uses) (own_operand step) ∙ ap (λ (x : List (Columns C)). x ++ own) (used_rows products steps step.uses) in
+      let rows : rows_of products (co_operands_of steps step.uses ++ operand_of step ∷ []) ≡ used ++ own =
+      rows_of_push products (co_operands_of steps step.uses) (operand_of step) ∙ ap (λ (x : List (Columns C)). x ++ own) (used_rows products steps step.uses) in
       same_in (used ++ own) (own ++ used) leak answer (swapped used own)
       (subst (λ (x : List (Columns C)). MatchBool answer (InSpan x leak) (¬ InSpan x leak)) rows h)
 
@@ -124,8 +126,8 @@ share_operands list items shares same h = (ap length same ∙ h.0, λ s le. ap (
 
 -- the operands of a step: the co-operands of its uses, with its own operand behind them
 pub step_operands : (steps : List Step) (step : Step) (uses : List ℕ) (all pushed items : List Operand) (own : Operand)
-    → all ≡ pushed → pushed ≡ items ++ own ∷ [] → items ≡ co_operands_of steps uses → uses ≡ step.uses → own ≡ own_operand step
-    → all ≡ co_operands_of steps step.uses ++ own_operand step ∷ []
+    → all ≡ pushed → pushed ≡ items ++ own ∷ [] → items ≡ co_operands_of steps uses → uses ≡ step.uses → own ≡ operand_of step
+    → all ≡ co_operands_of steps step.uses ++ operand_of step ∷ []
 step_operands steps step uses all pushed items own a b c d e =
     a ∙ b ∙ ap (λ (x : List Operand). x ++ own ∷ []) c
     ∙ ap (λ (x : List ℕ). co_operands_of steps x ++ own ∷ []) d

@@ -1,6 +1,6 @@
 -- How many probes the steps of a derivation unfold to, in counts that stop at `MANY`.
 use Rattle.std.specs.Prelude.{◌≡◌, ◌<◌, ℕ, List, length, min, slice_index}
-use Rattle.attack_text.specs.declared.attack.Step.{Step}
+use Rattle.attack_model.specs.declared.attack.Step.{Step}
 use Rattle.attack_probes.specs.declared.listing.TheConstants.{MANY}
 use Rattle.attack_probes.specs.Unfolding.{unfolded}
 

@@ -3,25 +3,23 @@ use Rattle.std.specs.Prelude.{◌≡◌, ◌<◌, ◌≤◌, List, length, map}
 use Rattle.span_model.specs.Columns.{Columns, set_of}
 use Rattle.span_model.specs.Attack.{Product, Probe, IsAttack}
 use Rattle.linear_view.specs.View.{LinearView, products_of}
-use Rattle.attack_text.specs.declared.attack.Probe.{Probe as Listed}
-use Rattle.attack_text.specs.declared.attack.Derivation.{Derivation}
-use Rattle.attack_text.specs.declared.attack.Listing.{Listing}
-use Rattle.attack_text.specs.declared.attack.Listing.TheVariants.{Probes, Large}
-use Rattle.attack_text.specs.declared.attack.Attack.{Attack}
+use Rattle.attack_model.specs.declared.attack.Probe.{Probe as Listed}
+use Rattle.attack_model.specs.declared.attack.Derivation.{Derivation}
+use Rattle.attack_model.specs.declared.attack.Listing.{Listing}
+use Rattle.attack_model.specs.declared.attack.Listing.TheVariants.{Probes, Large}
+use Rattle.attack_model.specs.declared.attack.Attack.{Attack}
+use Rattle.attack_model.specs.declared.attack.TheConstants.{MAX_PROBES}
+use Rattle.attack_model.specs.Ranges.{probe_of}
 use Rattle.attack_probes.specs.Derivations.{IsSound}
-
--- a listed probe, as a probe on shares of any number
-abbrev pub probe_of : Listed → Probe
-probe_of listed = record { product = listed.product; left_share = listed.left_share; right_share = listed.right_share }
 
 -- the listed probes
 abbrev pub probes_of : List Listed → List Probe
 probes_of list = map probe_of list
 
--- the listing has these probes, or is `Large` where they are more than 100,000
+-- the listing has these probes, or is `Large` where they are more than are listed
 abbrev pub Lists : Listing → List Probe → Type 0
-Lists (Probes list) probes = (length probes ≤ 100000) × (probes_of list ≡ probes)
-Lists Large probes = 100000 < length probes
+Lists (Probes list) probes = (length probes ≤ MAX_PROBES) × (probes_of list ≡ probes)
+Lists Large probes = MAX_PROBES < length probes
 
 -- the leak holds on the products: the listed probes are an attack with it or, where none are listed, the derivation is sound
 abbrev pub HoldsBy : {C : Type 0} → List (Product C) → Columns C → Derivation → Listing → Type 0

@@ -1,10 +1,10 @@
 -- The unfolding of a derivation: its probes, with each use of a step on a share of its own.
 use Rattle.std.specs.Prelude.{ℕ, zero, suc, ◌+◌, List, [], ◌∷◌, ◌++◌, length}
 use Rattle.span_model.specs.Attack.{Probe}
-use Rattle.attack_text.specs.declared.attack.Side.{Side}
-use Rattle.attack_text.specs.declared.attack.Side.TheVariants.{Left, Right}
-use Rattle.attack_text.specs.declared.attack.Step.{Step}
-use Rattle.attack_probes.specs.Derivations.{step_at}
+use Rattle.linear_view.specs.declared.operand.Side.{Side}
+use Rattle.linear_view.specs.declared.operand.Side.TheVariants.{Left, Right}
+use Rattle.attack_model.specs.declared.attack.Step.{Step}
+use Rattle.attack_model.specs.Derivations.{step_at}
 
 -- the probe of a product with its operand on this side at the share `own`, and the other operand at the share `other`
 abbrev pub probe_on : Side → (product own other : ℕ) → Probe

@@ -2,8 +2,9 @@
 use Rattle.std.specs.Prelude.{◌<◌, ℕ, List, length, All}
 use Rattle.span_model.specs.Columns.{Columns}
 use Rattle.span_model.specs.Attack.{Product, IsAttack}
-use Rattle.attack_text.specs.declared.attack.Step.{Step}
-use Rattle.attack_probes.specs.Derivations.{IsInOrder, IsSound}
+use Rattle.attack_model.specs.declared.attack.Step.{Step}
+use Rattle.attack_probes.specs.Derivations.{IsSound}
+use Rattle.attack_model.specs.Derivations.{IsInOrder}
 use Rattle.attack_probes.specs.Unfolding.{unfolding_of}
 
 -- the leak of a sound derivation in order, whose steps are of the products, is an attack with its unfolding

@@ -1,72 +1,20 @@
-ghost use Rattle.std.specs.Prelude.{◌≡◌, ℕ, ◌+◌, ◌++◌, ◌<◌, ◌≤◌, ◌↔◌, [], length, slice_get, slice_index_or, All, IsTrue, IfOk, OnOk, MatchBool};
+ghost use Rattle.std.specs.Prelude.{◌≡◌, ℕ, ◌+◌, ◌<◌, ◌≤◌, ◌↔◌, [], length, slice_index_or, All, IsTrue, IfOk, MatchBool};
 ghost use Rattle.std.specs.Bool.{OnTrue};
-ghost use Rattle.std.specs.Option.{option_copied, option_map};
-ghost use Rattle.span_model.specs.Columns.{set_of, sets_of};
-ghost use Rattle.span_model.specs.Span.{InSpan, SameSpan};
+ghost use Rattle.span_model.specs.Columns.{set_of};
+ghost use Rattle.span_model.specs.Span.{InSpan};
 ghost use Rattle.span_model.specs.Attack.{IsLeak, IsAttack, IsProbe};
-ghost use Rattle.gf2_span.specs.Basis.{row_sets};
 ghost use Rattle.linear_view.specs.View.{products_of};
-ghost use Rattle.attack_text.specs.Ranges.{InRange};
-ghost use Rattle.attack_probes.specs.Derivations.{IsDerived, IsInOrder, IsSound};
-ghost use Rattle.attack_probes.specs.Listings.{Holds, probe_of, probes_of};
-ghost use Rattle.attack_probes.specs.Operands.{rows_of, own_operand, co_operand, co_operands_of, operands_at, rows_on};
+ghost use Rattle.attack_model.specs.Derivations.{IsInOrder};
+ghost use Rattle.attack_model.specs.Ranges.{InRange, probe_of};
+ghost use Rattle.attack_probes.specs.Derivations.{IsDerived, IsSound};
+ghost use Rattle.attack_probes.specs.Listings.{Holds, probes_of};
+ghost use Rattle.attack_probes.specs.Operands.{rows_of, co_operands_of, operands_at};
 
-use attack_text::{Attack, Derivation, Listing, Probe, Side, Step};
+use attack_model::{Attack, Derivation, Listing, Operand, Probe, Side, Step};
 use gf2_span::{BitRow, Span};
 use linear_view::View;
 use std::alloc::{AllocError, Global};
 use tor_edge::List;
-
-// One of the operands of a product.
-#[derive(Debug, Clone, Copy)]
-pub(crate) struct Operand {
-    product: u32,
-    side: Side,
-}
-
-fn own_operand(step: &Step) -> Operand
-    ensures { result ≡ own_operand step.now }
-{
-    Operand {
-        product: step.product,
-        side: step.side,
-    }
-}
-
-fn co_operand(step: &Step) -> Operand
-    ensures { result ≡ co_operand step.now }
-{
-    let side = match step.side {
-        Side::Left => Side::Right,
-        Side::Right => Side::Left,
-    };
-    Operand {
-        product: step.product,
-        side,
-    }
-}
-
-// Grows the span by rows.
-fn insert_rows(alloc: Global, span: &mut Span, rows: &[BitRow]) -> Result<(), AllocError>
-    requires { All (λ row. length row ≡ span.old.columns) rows.now }
-    ensures columns { span.new.columns ≡ span.old.columns }
-    ensures span { OnOk result (SameSpan (row_sets span.new) (row_sets span.old ++ sets_of rows.now)) }
-{
-    for row in rows {
-        let _fresh = span.insert(row.copy(alloc)?)?;
-    }
-    Ok(())
-}
-
-// The rows of an operand.
-fn rows<'a>(view: &'a View, operand: Operand) -> Option<&'a List<BitRow>>
-    ensures { option_copied result ≡ option_map (rows_on operand.side) (slice_get view.now.products operand.product) }
-{
-    match operand.side {
-        Side::Left => view.left(operand.product),
-        Side::Right => view.right(operand.product),
-    }
-}
 
 // Whether the rows of the operands span the leak.
 fn spans(
@@ -77,14 +25,14 @@ fn spans(
 ) -> Result<bool, AllocError>
     requires columns { length leak.now ≡ length view.now.columns }
     requires within { All (λ operand. operand.product < length view.now.products) operands.now }
-    ensures { IfOk result (λ answer. MatchBool answer (InSpan (rows_of (products_of view.now) operands.now) (set_of leak.now)) (¬ InSpan (rows_of (products_of view.now) operands.now) (set_of leak.now))) }
+    ensures { IfOk result (λ answer. MatchBool answer
+        (InSpan (rows_of (products_of view.now) operands.now) (set_of leak.now))
+        (¬ InSpan (rows_of (products_of view.now) operands.now) (set_of leak.now))) }
 {
     let columns = view.columns();
     let mut span = Span::new(alloc, columns)?;
     for operand in operands {
-        if let Some(rows) = rows(view, *operand) {
-            insert_rows(alloc, &mut span, rows.as_slice())?;
-        }
+        span.insert_all(alloc, view.operand(*operand))?;
     }
     let mut scratch = BitRow::new(alloc, columns)?;
     Ok(span.contains(leak, &mut scratch))
@@ -97,7 +45,7 @@ fn co_operands(alloc: Global, steps: &[Step], uses: &[u32]) -> Result<Vec<Operan
 {
     let mut operands = Vec::new(alloc);
     for k in uses {
-        operands.push(co_operand(&steps[*k as usize]))?;
+        operands.push(steps[*k as usize].operand().other())?;
     }
     Ok(operands)
 }
@@ -165,10 +113,12 @@ fn step_spans(
     requires products { All (λ step. step.product < length view.now.products) steps.now }
     requires product { step.now.product < length view.now.products }
     requires uses { All (λ k. k < length steps.now) step.now.uses }
-    ensures { IfOk result (λ answer. MatchBool answer (IsDerived (products_of view.now) (set_of leak.now) steps.now step.now) (¬ IsDerived (products_of view.now) (set_of leak.now) steps.now step.now)) }
+    ensures { IfOk result (λ answer. MatchBool answer
+        (IsDerived (products_of view.now) (set_of leak.now) steps.now step.now)
+        (¬ IsDerived (products_of view.now) (set_of leak.now) steps.now step.now)) }
 {
     let mut operands = co_operands(alloc, steps, step.uses.as_slice())?;
-    operands.push(own_operand(step))?;
+    operands.push(step.operand())?;
     spans(alloc, view, operands.as_slice(), leak)
 }
 

@@ -4,9 +4,7 @@
 mod holding;
 mod laws;
 mod listing;
-#[cfg(test)]
-mod tests;
 
 pub use holding::holds;
 pub use laws::unfolding_is_attack;
-pub use listing::{MAX_PROBES, unfold};
+pub use listing::unfold;

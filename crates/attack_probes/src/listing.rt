@@ -1,15 +1,13 @@
 ghost use Rattle.std.specs.Prelude.{◌≡◌, ℕ, ◌++◌, ◌<◌, ◌≤◌, length, map, min, sum_by, reverse, slice_index, All, IfOk, OnOk};
 ghost use Rattle.attack_probes.specs.Counts.{AreCounts};
-ghost use Rattle.attack_probes.specs.Derivations.{AreUses, IsInOrder, step_at};
+ghost use Rattle.attack_model.specs.Derivations.{AreUses, IsInOrder, step_at};
+ghost use Rattle.attack_model.specs.Ranges.{probe_of};
 ghost use Rattle.attack_probes.specs.Unfolding.{unfolding_of, probe_on};
-ghost use Rattle.attack_probes.specs.Listings.{Lists, probe_of, probes_of};
+ghost use Rattle.attack_probes.specs.Listings.{Lists, probes_of};
 
-use attack_text::{Derivation, Listing, Probe, Side, Step};
+use attack_model::{Derivation, Listing, MAX_PROBES, Probe, Side, Step};
 use std::alloc::{AllocError, Global};
 use tor_edge::List;
-
-/// How many probes are listed at most.
-pub const MAX_PROBES: u32 = 100_000;
 
 // Where counts of probes stop: more than are listed.
 const MANY: u32 = MAX_PROBES + 1;

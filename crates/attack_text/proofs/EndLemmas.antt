@@ -4,10 +4,10 @@ use Rattle.std.proofs.lemmas.Bool.{le-ltb}
 use Rattle.linear_view.specs.View.{LinearView}
 use Rattle.attack_text.specs.Parts.{rest_of, with_every_probe}
 use Rattle.attack_text.specs.Reading.{nothing, opened, with_leak, with_steps, with_root, with_probes, with_large, attack_from, attack_of}
-use Rattle.attack_text.specs.declared.attack.Derivation.{Derivation}
-use Rattle.attack_text.specs.declared.attack.Listing.{Listing}
-use Rattle.attack_text.specs.declared.attack.Listing.TheVariants.{Probes, Large}
-use Rattle.attack_text.specs.declared.attack.Step.{Step}
+use Rattle.attack_model.specs.declared.attack.Derivation.{Derivation}
+use Rattle.attack_model.specs.declared.attack.Listing.{Listing}
+use Rattle.attack_model.specs.declared.attack.Listing.TheVariants.{Probes, Large}
+use Rattle.attack_model.specs.declared.attack.Step.{Step}
 use Rattle.attack_text.specs.declared.read.CertFault.TheVariants as fault
 use Rattle.text_lines.specs.Lines.{LinesLeft, lines_of}
 

@@ -5,58 +5,23 @@ use Rattle.std.specs.List.{slice_split, list_all, join_with_byte}
 use Rattle.std.specs.Option.{option_map}
 use Rattle.std.specs.Str.{bytes_eq}
 use Rattle.std.proofs.lemmas.Bool.{true≢false, false≢true, cases_Bool, and_parts, and_from, not-true, ltb-true, eqb-true, eqb-false}
-use Rattle.std.proofs.lemmas.Fmt.{decimal-digits_value}
-use Rattle.std.proofs.lemmas.List.Splits.{join_with_byte-slice_split}
 use Rattle.std.proofs.lemmas.Slice.Eq.{bytes_eq-Decides}
-use Rattle.linear_view.specs.RowsText.{kind_text, column_text}
-use Rattle.linear_view.specs.declared.column.Column.{Column}
-use Rattle.linear_view.specs.declared.column.ColumnKind.{ColumnKind}
-use Rattle.linear_view.specs.declared.column.ColumnKind.TheVariants.{Input, Product, Refresh}
-use Rattle.attack_text.specs.AttackText.{leak_words, side_word, core_words, step_words, probe_words}
-use Rattle.attack_text.specs.Forms.{Counts, kind_of, column_of_parts, column_of, side_of, version_form, core_form, leak_form, steps_form, step_on, step_form, root_form, listing_form, probe_form}
-use Rattle.attack_text.specs.Ranges.{is_column, leak_of, are_uses}
-use Rattle.attack_text.specs.declared.attack.Probe.{Probe}
-use Rattle.attack_text.specs.declared.attack.Side.{Side}
-use Rattle.attack_text.specs.declared.attack.Side.TheVariants.{Left, Right}
-use Rattle.attack_text.specs.declared.attack.Step.{Step}
-use Rattle.attack_text.proofs.RoundLemmas.{AreSmall, small_parts, columns_are}
+use Rattle.attack_text.specs.AttackText.{side_word, core_words, step_words, probe_words}
+use Rattle.attack_text.specs.Forms.{Counts, side_of, version_form, core_form, leak_form, steps_form, step_on, step_form, root_form, listing_form, probe_form}
+use Rattle.attack_model.specs.Derivations.{are_uses}
+use Rattle.column_lists.specs.Names.{are_columns}
+use Rattle.column_lists.proofs.WrittenLemmas.{none_some, some_is, pick_some}
+use Rattle.attack_model.specs.declared.attack.Probe.{Probe}
+use Rattle.linear_view.specs.declared.operand.Side.{Side}
+use Rattle.linear_view.specs.declared.operand.Side.TheVariants.{Left, Right}
+use Rattle.attack_model.specs.declared.attack.Step.{Step}
 use Rattle.text_lines.specs.Numbers.{is_number, value_of}
-use Rattle.text_lines.proofs.WrittenLemmas.{digits_model}
-
-none_some : {X : Type 0} (x : X) → None ≡ Some x → ⊥
-none_some x e = cc
-
-some_is : {X : Type 0} (x y : X) → Some x ≡ Some y → x ≡ y
-some_is x y e = cc
-
-pick_some : {X : Type 0} (b : Bool) (said x : X) → (if b then Some said else None) ≡ Some x → (b ≡ true) × (said ≡ x)
-pick_some true said x e = (refl, some_is said x e)
-pick_some false said x e = absurd (none_some x e)
+use Rattle.text_lines.proofs.SpelledLemmas.{number_word}
 
 word_is : (word form : List ℕ) → bytes_eq word form ≡ true → word ≡ form
 word_is word form h = (bytes_eq-Decides word form).0 h
 
 -- numbers
-number_digits : (word : List ℕ) → is_number word ≡ true → list_all is_ascii_digit word ≡ true
-number_digits [] h = absurd (false≢true h)
-number_digits (d ∷ []) h = and_from (is_ascii_digit d) true h refl
-number_digits (d ∷ e ∷ ds) h = (and_parts (not (eqb d 48)) (list_all is_ascii_digit (d ∷ e ∷ ds)) h).1
-
-number_nonempty : (word : List ℕ) → is_number word ≡ true → 0 < length word
-number_nonempty [] h = absurd (false≢true h)
-number_nonempty (d ∷ ds) h = omega arith
-
-number_zero : (word : List ℕ) → is_number word ≡ true → get_or word 0 0 ≡ 48 → length word ≡ 1
-number_zero [] h z = absurd (false≢true h)
-number_zero (d ∷ []) h z = refl
-number_zero (d ∷ e ∷ ds) h z =
-    let w = and_parts (not (eqb d 48)) (list_all is_ascii_digit (d ∷ e ∷ ds)) h in
-    absurd (eqb-false d 48 (not-true (eqb d 48) w.0) z)
-
-number_word : (word : List ℕ) (n : ℕ) → is_number word ≡ true → value_of word ≡ n → n < 2 ^ 64 → word ≡ decimal n
-number_word word n h e small =
-    sym (decimal-digits_value digits_model word (number_digits word h) (number_nonempty word h) (number_zero word h) (omega arith)) ∙ ap decimal e
-
 uses_words : (least n : ℕ) (us : List (List ℕ)) → n < 2 ^ 64 → list_all is_number us ≡ true → are_uses least n (map value_of us) ≡ true → us ≡ map decimal (map value_of us)
 uses_words least n [] small h k = refl
 uses_words least n (u ∷ us) small h k =
@@ -65,89 +30,6 @@ uses_words least n (u ∷ us) small h k =
     let below : value_of u < n = ltb-true (value_of u) n (and_parts (leb least (value_of u)) (ltb (value_of u) n) v.0).1 in
     ap (λ (x : List ℕ). x ∷ us) (number_word u (value_of u) w.0 refl (omega arith))
     ∙ ap (λ (xs : List (List ℕ)). decimal (value_of u) ∷ xs) (uses_words (suc (value_of u)) n us small w.1 v.1)
-
--- columns
-kind_letter : (letter : ℕ) (kind : ColumnKind) → kind_of letter ≡ Some kind → letter ∷ [] ≡ kind_text kind
-kind_letter letter kind e =
-    elim (cases_Bool (eqb letter 105)) [
-      | inl i ↦
-          (let f : Some Input ≡ Some kind = sym (rw i refl) ∙ e in
-          ap (λ (l : ℕ). l ∷ []) (eqb-true letter 105 i) ∙ ap kind_text (some_is Input kind f))
-      | inr no_i ↦
-          (elim (cases_Bool (eqb letter 112)) [
-            | inl p ↦
-                (let f : Some Product ≡ Some kind = sym (rw (no_i, p) refl) ∙ e in
-                ap (λ (l : ℕ). l ∷ []) (eqb-true letter 112 p) ∙ ap kind_text (some_is Product kind f))
-            | inr no_p ↦
-                (elim (cases_Bool (eqb letter 102)) [
-                  | inl r ↦
-                      (let f : Some Refresh ≡ Some kind = sym (rw (no_i, no_p, r) refl) ∙ e in
-                      ap (λ (l : ℕ). l ∷ []) (eqb-true letter 102 r) ∙ ap kind_text (some_is Refresh kind f))
-                  | inr no_r ↦ (let f : None ≡ Some kind = sym (rw (no_i, no_p, no_r) refl) ∙ e in absurd (none_some kind f))
-                ])
-          ])
-    ]
-
-place_text : (letter : ℕ) (kind : ColumnKind) (n b : ℕ) → letter ∷ [] ≡ kind_text kind
-    → letter ∷ (decimal n ++ 46 ∷ decimal b) ≡ ((kind_text kind ++ decimal n) ++ codes ".") ++ decimal b
-place_text letter kind n b e =
-    ap (λ (k : List ℕ). (k ++ decimal n) ++ 46 ∷ decimal b) e ∙ sym (append_assoc (kind_text kind ++ decimal n) (codes ".") (decimal b))
-
-parts_name : (letter : ℕ) (place : List ℕ) (kind : Option ColumnKind) (parts : List (List ℕ)) (column : Column) → kind_of letter ≡ kind
-    → slice_split (λ byte. eqb byte 46) place ≡ parts → column_of_parts kind parts ≡ Some column → column.number < 2 ^ 64 → column.bit < 2 ^ 64
-    → letter ∷ place ≡ column_text column
-parts_name letter place None parts column k s e hn hb = absurd (none_some column e)
-parts_name letter place (Some kind) [] column k s e hn hb = absurd (none_some column e)
-parts_name letter place (Some kind) (a ∷ []) column k s e hn hb = absurd (none_some column e)
-parts_name letter place (Some kind) (a ∷ b ∷ c ∷ more) column k s e hn hb = absurd (none_some column e)
-parts_name letter place (Some kind) (a ∷ b ∷ []) column k s e hn hb =
-    let made : Column = record { kind = kind; number = value_of a; bit = value_of b } in
-    let w = pick_some (is_number a && is_number b) made column e in
-    let v = and_parts (is_number a) (is_number b) w.0 in
-    let kinds : kind ≡ column.kind = ap (λ (c : Column). c.kind) w.1 in
-    let numbers : value_of a ≡ column.number = ap (λ (c : Column). c.number) w.1 in
-    let bits : value_of b ≡ column.bit = ap (λ (c : Column). c.bit) w.1 in
-    let cut : place ≡ a ++ 46 ∷ b = sym (join_with_byte-slice_split 46 place) ∙ ap (join_with_byte 46) s in
-    ap (λ (p : List ℕ). letter ∷ p) cut
-    ∙ ap (λ (x : List ℕ). letter ∷ (x ++ 46 ∷ b)) (number_word a column.number v.0 numbers hn)
-    ∙ ap (λ (x : List ℕ). letter ∷ (decimal column.number ++ 46 ∷ x)) (number_word b column.bit v.1 bits hb)
-    ∙ place_text letter column.kind column.number column.bit (kind_letter letter kind k ∙ ap kind_text kinds)
-
-column_word : (word : List ℕ) (column : Column) → column_of word ≡ Some column → column.number < 2 ^ 64 → column.bit < 2 ^ 64 → word ≡ column_text column
-column_word [] column e hn hb = absurd (none_some column e)
-column_word (letter ∷ place) column e hn hb =
-    parts_name letter place (kind_of letter) (slice_split (λ byte. eqb byte 46) place) column refl refl e hn hb
-
-named_is : (named : Option Column) (column : Column) → is_column named column ≡ true → named ≡ Some column
-named_is None column h = absurd (false≢true h)
-named_is (Some named) column h = ap (λ (c : Column). Some c) (columns_are named column h)
-
-mapped_from : (bit : Bool) (found : Option (List Bool)) (leak : List Bool) → option_map (λ more. bit ∷ more) found ≡ Some leak
-    → (more : List Bool) × (found ≡ Some more) × (bit ∷ more ≡ leak)
-mapped_from bit None leak e = absurd (none_some leak e)
-mapped_from bit (Some more) leak e = (more, refl, some_is (bit ∷ more) leak e)
-
-pub leak_words_are : (columns : List Column) (words : List (List ℕ)) (leak : List Bool) → AreSmall columns → leak_of columns words ≡ Some leak → words ≡ leak_words columns leak
-leak_words_are [] [] leak small e = refl
-leak_words_are [] (word ∷ words) leak small e = absurd (none_some leak e)
-leak_words_are (column ∷ columns) [] leak small e =
-    let w = mapped_from false (leak_of columns []) leak e in
-    leak_words_are columns [] w.0 (small_parts column columns small).2 w.1 ∙ ap (leak_words (column ∷ columns)) w.2
-leak_words_are (column ∷ columns) (word ∷ words) leak small e =
-    let s = small_parts column columns small in
-    elim (cases_Bool (is_column (column_of word) column)) [
-      | inl named ↦
-          (let f : option_map (λ more. true ∷ more) (leak_of columns words) ≡ Some leak = sym (rw named refl) ∙ e in
-          let w = mapped_from true (leak_of columns words) leak f in
-          let here : word ≡ column_text column = column_word word column (named_is (column_of word) column named) (omega (arith, s.0)) (omega (arith, s.1)) in
-          ap (λ (x : List ℕ). x ∷ words) here
-          ∙ ap (λ (xs : List (List ℕ)). column_text column ∷ xs) (leak_words_are columns words w.0 s.2 w.1)
-          ∙ ap (leak_words (column ∷ columns)) w.2)
-      | inr other ↦
-          (let f : option_map (λ more. false ∷ more) (leak_of columns (word ∷ words)) ≡ Some leak = sym (rw other refl) ∙ e in
-          let w = mapped_from false (leak_of columns (word ∷ words)) leak f in
-          leak_words_are columns (word ∷ words) w.0 s.2 w.1 ∙ ap (leak_words (column ∷ columns)) w.2)
-    ]
 
 -- the first line
 pub second_version_words : (words : List (List ℕ)) → version_form words ≡ Some true → words ≡ codes "attack" ∷ codes "2" ∷ []
@@ -192,8 +74,8 @@ core_words_are (a ∷ b ∷ c ∷ d ∷ p ∷ []) counts e hc hp =
 pub leak_line_words : (words columns : List (List ℕ)) → leak_form words ≡ Some columns → words ≡ codes "leak" ∷ columns
 leak_line_words [] columns e = absurd (none_some columns e)
 leak_line_words (a ∷ more) columns e =
-    let w = pick_some (bytes_eq a (codes "leak") && list_all (λ word. is_some (column_of word)) more) more columns e in
-    let v = and_parts (bytes_eq a (codes "leak")) (list_all (λ word. is_some (column_of word)) more) w.0 in
+    let w = pick_some (bytes_eq a (codes "leak") && are_columns more) more columns e in
+    let v = and_parts (bytes_eq a (codes "leak")) (are_columns more) w.0 in
     ap (λ (x : List ℕ). x ∷ more) (word_is a (codes "leak") v.0) ∙ ap (λ (xs : List (List ℕ)). codes "leak" ∷ xs) w.1
 
 -- the line `steps N`

@@ -1,10 +1,7 @@
 pub mod WriteLemmas
-pub mod LeakLemmas
-pub mod FormLemmas
+pub mod TestLemmas
 pub mod RangeLemmas
 pub mod EndLemmas
 pub mod RoundLemmas
-pub mod UseLemmas
-pub mod CutBackLemmas
 pub mod FormBackLemmas
 pub mod SpelledLemmas

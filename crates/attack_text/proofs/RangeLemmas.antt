@@ -5,14 +5,20 @@ use Rattle.std.specs.Option.{option_map}
 use Rattle.std.proofs.lemmas.Bool.{cases_Bool, and_parts, and_from, ltb-true, ltb-false}
 use Rattle.linear_view.specs.View.{LinearView}
 use Rattle.linear_view.specs.declared.column.Column.{Column}
-use Rattle.attack_text.specs.Forms.{column_of, leak_form, steps_form, step_form, root_form, listing_form, probe_form}
-use Rattle.attack_text.specs.Ranges.{leak_of, is_column, are_uses, is_steps_count, is_step, is_probe, are_steps, is_listed, most_probes, InRange}
+use Rattle.attack_text.specs.Forms.{leak_form, steps_form, step_form, root_form, listing_form, probe_form}
+use Rattle.attack_text.specs.Ranges.{is_steps_count, is_step, is_probe}
+use Rattle.attack_text.proofs.TestLemmas.{are_steps, is_listed, PassesTests, tests_in_range}
+use Rattle.attack_model.specs.Derivations.{are_uses}
+use Rattle.attack_model.specs.Ranges.{InRange}
+use Rattle.attack_model.specs.declared.attack.TheConstants.{MAX_PROBES}
+use Rattle.column_lists.specs.Rows.{named_row}
+use Rattle.column_lists.proofs.RowLemmas.{named_size}
 use Rattle.attack_text.specs.Reading.{SoFar, nothing, second, opened, with_leak, with_steps, with_root, with_probes, with_large, said_in_range, leak_in_order, leak_at, added, with_version, with_listing, is_listing, unless_fault, at_end, attack_from, version_line, core_line, leak_line, steps_line, step_line, root_line, listing_line, probe_line}
-use Rattle.attack_text.specs.declared.attack.Attack.{Attack}
-use Rattle.attack_text.specs.declared.attack.Derivation.{Derivation}
-use Rattle.attack_text.specs.declared.attack.Listing.TheVariants.{Probes, Large}
-use Rattle.attack_text.specs.declared.attack.Probe.{Probe}
-use Rattle.attack_text.specs.declared.attack.Step.{Step}
+use Rattle.attack_model.specs.declared.attack.Attack.{Attack}
+use Rattle.attack_model.specs.declared.attack.Derivation.{Derivation}
+use Rattle.attack_model.specs.declared.attack.Listing.TheVariants.{Probes, Large}
+use Rattle.attack_model.specs.declared.attack.Probe.{Probe}
+use Rattle.attack_model.specs.declared.attack.Step.{Step}
 use Rattle.attack_text.specs.declared.read.CertFault.{CertFault}
 use Rattle.attack_text.specs.declared.read.CertFault.TheVariants as fault
 use Rattle.text_lines.proofs.WrittenLemmas.{list_all_append}
@@ -34,7 +40,7 @@ pub record Stepping (view : LinearView) (leak : List Bool) (n : ℕ) (steps : Li
 -- probes in range, of t
 pub record Probing (view : LinearView) (derivation : Derivation) (t : ℕ) (probes : List Probe) : Type 0 where
   pub derives : Derives view derivation
-  pub few : leb t most_probes ≡ true
+  pub few : leb t MAX_PROBES ≡ true
   pub in_range : list_all (is_probe view t) probes ≡ true
   pub some_left : length probes ≤ t
 
@@ -72,36 +78,13 @@ pub said_ok : {X : Type 0} (k : ℕ) (said : Option X) (test : X → Bool) (x : 
 said_ok k None test x e = absurd (no_ok (fault.Syntax k) x e)
 said_ok k (Some said) test x e = let w = pick_ok (test said) said x (fault.OutOfRange k) e in ap test (sym w.1) ∙ w.0
 
-mapped : (bit : Bool) (o : Option (List Bool)) (leak : List Bool) (n : ℕ) → option_map (λ more. bit ∷ more) o ≡ Some leak
-    → ((more : List Bool) → o ≡ Some more → length more ≡ n) → length leak ≡ suc n
-mapped bit None leak n e sizes = absurd (no_some leak e)
-mapped bit (Some more) leak n e sizes =
-    let same : bit ∷ more ≡ leak = ap (λ (o : Option (List Bool)). unwrap_or o (bit ∷ more)) e in
-    let size : length more ≡ n = sizes more refl in
-    sym (ap length same) ∙ ap suc size
-
--- a leak has a bit for each column
-leak_size : (columns : List Column) (words : List (List ℕ)) (leak : List Bool) → leak_of columns words ≡ Some leak → length leak ≡ length columns
-leak_size [] [] leak e = let same : [] ≡ leak = ap (λ (o : Option (List Bool)). unwrap_or o []) e in sym (ap length same)
-leak_size [] (word ∷ words) leak e = absurd (no_some leak e)
-leak_size (column ∷ columns) [] leak e = mapped false (leak_of columns []) leak (length columns) e (leak_size columns [])
-leak_size (column ∷ columns) (word ∷ words) leak e =
-    elim (cases_Bool (is_column (column_of word) column)) [
-      | inl named ↦
-          (let f : option_map (λ more. true ∷ more) (leak_of columns words) ≡ Some leak = sym (rw named refl) ∙ e in
-          mapped true (leak_of columns words) leak (length columns) f (leak_size columns words))
-      | inr other ↦
-          (let f : option_map (λ more. false ∷ more) (leak_of columns (word ∷ words)) ≡ Some leak = sym (rw other refl) ∙ e in
-          mapped false (leak_of columns (word ∷ words)) leak (length columns) f (leak_size columns (word ∷ words)))
-    ]
-
 pub in_order_ok : (k : ℕ) (found : Option (List Bool)) (leak : List Bool) → leak_in_order k found ≡ Ok leak → found ≡ Some leak
 in_order_ok k None leak e = absurd (no_ok (fault.OutOfRange k) leak e)
 in_order_ok k (Some bits) leak e = ap (λ (b : List Bool). Some b) (ap (value_or bits) e)
 
 leak_ok : (view : LinearView) (k : ℕ) (form : Option (List (List ℕ))) (leak : List Bool) → leak_at view k form ≡ Ok leak → length leak ≡ length view.columns
 leak_ok view k None leak e = absurd (no_ok (fault.Syntax k) leak e)
-leak_ok view k (Some columns) leak e = leak_size view.columns columns leak (in_order_ok k (leak_of view.columns columns) leak e)
+leak_ok view k (Some columns) leak e = named_size view.columns columns leak (in_order_ok k (named_row view.columns columns) leak e)
 
 are_steps_push : (view : LinearView) (i : ℕ) (steps : List Step) (step : Step) → are_steps view i steps ≡ true → is_step view (i + length steps) step ≡ true
     → are_steps view i (steps ++ step ∷ []) ≡ true
@@ -121,7 +104,7 @@ after_listing : (view : LinearView) (derivation : Derivation) (count : Option �
 after_listing view derivation None derives few = derives
 after_listing view derivation (Some t) derives few = record { derives = derives; few = few; in_range = refl; some_left = omega arith }
 
-ends_ok : (view : LinearView) (so_far : SoFar) (k : ℕ) (attack : Attack) → SoFarInRange view so_far → at_end so_far k ≡ Ok attack → InRange view attack
+ends_ok : (view : LinearView) (so_far : SoFar) (k : ℕ) (attack : Attack) → SoFarInRange view so_far → at_end so_far k ≡ Ok attack → PassesTests view attack
 ends_ok view nothing k attack ok e = absurd (no_ok (fault.Syntax k) attack e)
 ends_ok view second k attack ok e = absurd (no_ok (fault.Syntax k) attack e)
 ends_ok view opened k attack ok e = absurd (no_ok (fault.Syntax k) attack e)
@@ -141,34 +124,35 @@ ends_ok view (with_probes derivation t probes) k attack ok e =
           let within : length probes ≤ t = ok.some_left in
           let count : t ≡ length probes = omega arith in
           let listed : is_listed view (Probes probes) ≡ true =
-          and_from (leb (length probes) most_probes) (list_all (is_probe view (length probes)) probes)
-          (subst (λ (n : ℕ). leb n most_probes ≡ true) count ok.few) (subst (λ (n : ℕ). list_all (is_probe view n) probes ≡ true) count ok.in_range) in
-          subst (InRange view) same
+          and_from (leb (length probes) MAX_PROBES) (list_all (is_probe view (length probes)) probes)
+          (subst (λ (n : ℕ). leb n MAX_PROBES ≡ true) count ok.few) (subst (λ (n : ℕ). list_all (is_probe view n) probes ≡ true) count ok.in_range) in
+          subst (PassesTests view) same
           (record { leak = ok.derives.leak; steps_count = ok.derives.count; steps = ok.derives.steps; root = ok.derives.root; listing = listed }))
     ]
 ends_ok view (with_large derivation) k attack ok e =
     let whole : Attack = record { derivation = derivation; listing = Large } in
     let same : whole ≡ attack = ap (value_or whole) e in
-    subst (InRange view) same (record { leak = ok.leak; steps_count = ok.count; steps = ok.steps; root = ok.root; listing = refl })
+    subst (PassesTests view) same (record { leak = ok.leak; steps_count = ok.count; steps = ok.steps; root = ok.root; listing = refl })
 
-pub read_in_range : (view : LinearView) (lines : List (Option (List (List ℕ)))) (so_far : SoFar) (k : ℕ) (attack : Attack) → SoFarInRange view so_far
-    → attack_from view so_far k lines ≡ Ok attack → InRange view attack
-read_in_range view [] so_far k attack ok e = ends_ok view so_far k attack ok e
-read_in_range view (None ∷ lines) so_far k attack ok e = absurd (no_ok (fault.Syntax k) attack e)
-read_in_range view (Some words ∷ lines) nothing k attack ok e =
+-- what lines say of an attack passes the tests
+passes_from : (view : LinearView) (lines : List (Option (List (List ℕ)))) (so_far : SoFar) (k : ℕ) (attack : Attack) → SoFarInRange view so_far
+    → attack_from view so_far k lines ≡ Ok attack → PassesTests view attack
+passes_from view [] so_far k attack ok e = ends_ok view so_far k attack ok e
+passes_from view (None ∷ lines) so_far k attack ok e = absurd (no_ok (fault.Syntax k) attack e)
+passes_from view (Some words ∷ lines) nothing k attack ok e =
     let w = then_ok with_version (version_line k words) (λ next. attack_from view next (k + 1) lines) attack e in
-    read_in_range view lines (with_version w.0) (k + 1) attack (after_version view w.0) w.2
-read_in_range view (Some words ∷ lines) second k attack ok e =
+    passes_from view lines (with_version w.0) (k + 1) attack (after_version view w.0) w.2
+passes_from view (Some words ∷ lines) second k attack ok e =
     let w = then_ok (λ _. opened) (core_line view k words) (λ next. attack_from view next (k + 1) lines) attack e in
-    read_in_range view lines opened (k + 1) attack tt w.2
-read_in_range view (Some words ∷ lines) opened k attack ok e =
+    passes_from view lines opened (k + 1) attack tt w.2
+passes_from view (Some words ∷ lines) opened k attack ok e =
     let w = then_ok with_leak (leak_line view k words) (λ next. attack_from view next (k + 1) lines) attack e in
-    read_in_range view lines (with_leak w.0) (k + 1) attack (leak_ok view k (leak_form words) w.0 w.1) w.2
-read_in_range view (Some words ∷ lines) (with_leak leak) k attack ok e =
+    passes_from view lines (with_leak w.0) (k + 1) attack (leak_ok view k (leak_form words) w.0 w.1) w.2
+passes_from view (Some words ∷ lines) (with_leak leak) k attack ok e =
     let w = then_ok (λ n. with_steps leak n []) (steps_line view k words) (λ next. attack_from view next (k + 1) lines) attack e in
-    read_in_range view lines (with_steps leak w.0 []) (k + 1) attack
+    passes_from view lines (with_steps leak w.0 []) (k + 1) attack
     (record { leak_size = ok; count = said_ok k (steps_form words) (is_steps_count view) w.0 w.1; in_range = refl; some_left = omega arith }) w.2
-read_in_range view (Some words ∷ lines) (with_steps leak n steps) k attack ok e =
+passes_from view (Some words ∷ lines) (with_steps leak n steps) k attack ok e =
     elim (cases_Bool (ltb (length steps) n)) [
       | inl missing ↦
           (let f : unless_fault (added (λ step. with_steps leak n (steps ++ step ∷ [])) (step_line view (length steps) k words)) (λ next. attack_from view next (k + 1) lines) ≡ Ok attack =
@@ -177,7 +161,7 @@ read_in_range view (Some words ∷ lines) (with_steps leak n steps) k attack ok 
           let step_ok : is_step view (length steps) w.0 ≡ true = said_ok k (step_form (length steps) words) (is_step view (length steps)) w.0 w.1 in
           let step_ok_at : is_step view (0 + length steps) w.0 ≡ true = ap (λ (m : ℕ). is_step view m w.0) (let same : 0 + length steps ≡ length steps = omega arith in same) ∙ step_ok in
           let below : length steps < n = ltb-true _ _ missing in
-          read_in_range view lines (with_steps leak n (steps ++ w.0 ∷ [])) (k + 1) attack
+          passes_from view lines (with_steps leak n (steps ++ w.0 ∷ [])) (k + 1) attack
           (record {
             leak_size = ok.leak_size;
             count = ok.count;
@@ -193,7 +177,7 @@ read_in_range view (Some words ∷ lines) (with_steps leak n steps) k attack ok 
           let past : n ≤ length steps = ltb-false _ _ all in
           let within : length steps ≤ n = ok.some_left in
           let count : n ≡ length steps = omega arith in
-          read_in_range view lines (with_root (record { leak = leak; steps = steps; root = w.0 })) (k + 1) attack
+          passes_from view lines (with_root (record { leak = leak; steps = steps; root = w.0 })) (k + 1) attack
           (record {
             leak = ok.leak_size;
             count = subst (λ (m : ℕ). is_steps_count view m ≡ true) count ok.count;
@@ -202,11 +186,11 @@ read_in_range view (Some words ∷ lines) (with_steps leak n steps) k attack ok 
           })
           w.2)
     ]
-read_in_range view (Some words ∷ lines) (with_root derivation) k attack ok e =
+passes_from view (Some words ∷ lines) (with_root derivation) k attack ok e =
     let w = then_ok (with_listing derivation) (listing_line k words) (λ next. attack_from view next (k + 1) lines) attack e in
-    read_in_range view lines (with_listing derivation w.0) (k + 1) attack
+    passes_from view lines (with_listing derivation w.0) (k + 1) attack
     (after_listing view derivation w.0 ok (said_ok k (listing_form words) is_listing w.0 w.1)) w.2
-read_in_range view (Some words ∷ lines) (with_probes derivation t probes) k attack ok e =
+passes_from view (Some words ∷ lines) (with_probes derivation t probes) k attack ok e =
     elim (cases_Bool (ltb (length probes) t)) [
       | inl missing ↦
           (let f : unless_fault (added (λ probe. with_probes derivation t (probes ++ probe ∷ [])) (probe_line view t k words)) (λ next. attack_from view next (k + 1) lines) ≡ Ok attack =
@@ -214,7 +198,7 @@ read_in_range view (Some words ∷ lines) (with_probes derivation t probes) k at
           let w = then_ok (λ probe. with_probes derivation t (probes ++ probe ∷ [])) (probe_line view t k words) (λ next. attack_from view next (k + 1) lines) attack f in
           let probe_ok : is_probe view t w.0 ≡ true = said_ok k (probe_form words) (is_probe view t) w.0 w.1 in
           let below : length probes < t = ltb-true _ _ missing in
-          read_in_range view lines (with_probes derivation t (probes ++ w.0 ∷ [])) (k + 1) attack
+          passes_from view lines (with_probes derivation t (probes ++ w.0 ∷ [])) (k + 1) attack
           (record {
             derives = ok.derives;
             few = ok.few;
@@ -224,4 +208,9 @@ read_in_range view (Some words ∷ lines) (with_probes derivation t probes) k at
           w.2)
       | inr all ↦ (let f : Err (fault.Syntax k) ≡ Ok attack = sym (rw all refl) ∙ e in absurd (no_ok (fault.Syntax k) attack f))
     ]
-read_in_range view (Some words ∷ lines) (with_large derivation) k attack ok e = absurd (no_ok (fault.Syntax k) attack e)
+passes_from view (Some words ∷ lines) (with_large derivation) k attack ok e = absurd (no_ok (fault.Syntax k) attack e)
+
+-- an attack that a text spells is in range
+pub read_in_range : (view : LinearView) (lines : List (Option (List (List ℕ)))) (so_far : SoFar) (k : ℕ) (attack : Attack) → SoFarInRange view so_far
+    → attack_from view so_far k lines ≡ Ok attack → InRange view attack
+read_in_range view lines so_far k attack ok e = tests_in_range view attack (passes_from view lines so_far k attack ok e)

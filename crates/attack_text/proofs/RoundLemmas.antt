@@ -6,30 +6,32 @@ use Rattle.std.specs.Option.{option_map}
 use Rattle.std.specs.Str.{bytes_eq}
 use Rattle.std.proofs.lemmas.Bool.{true≢false, false≢true, cases_Bool, and_parts, and_from, cond-true, cond-false, ltb-true, leb-true, lt-ltb, le-ltb, eq-eqb, ne_eqb, eqb-true, not_from_false}
 use Rattle.std.proofs.lemmas.Slice.Eq.{bytes_eq-Decides}
-use Rattle.linear_view.specs.RowsText.{kind_text, column_text}
-use Rattle.linear_view.specs.View.{LinearView, IsSmallName, IsView}
-use Rattle.linear_view.specs.declared.column.Column.{Column}
-use Rattle.linear_view.specs.declared.column.ColumnKind.{ColumnKind}
-use Rattle.linear_view.specs.declared.column.ColumnKind.TheVariants.{Input, Product, Refresh}
-use Rattle.attack_text.specs.AttackText.{leak_words, side_word, core_words, step_words, steps_text, steps_count_text, counted_steps_text, root_text, probe_words, probes_text, listing_text, leak_text, head_text, body_text, attack_text, first_version_text}
-use Rattle.attack_text.specs.Forms.{Counts, core_form, column_of_parts, column_of, side_of, leak_form, steps_form, step_form, root_form, listing_form, probe_form}
-use Rattle.attack_text.specs.Ranges.{is_column, leak_of, are_uses, is_steps_count, is_step, is_probe, are_steps, is_listed, most_probes, InRange}
+use Rattle.linear_view.specs.View.{LinearView, IsView}
+use Rattle.attack_text.specs.AttackText.{side_word, core_words, step_words, steps_text, steps_count_text, counted_steps_text, root_text, probe_words, probes_text, listing_text, leak_text, head_text, body_text, attack_text, first_version_text}
+use Rattle.attack_text.specs.Forms.{Counts, core_form, side_of, leak_form, steps_form, step_form, root_form, listing_form, probe_form}
+use Rattle.attack_text.specs.Ranges.{is_steps_count, is_step, is_probe}
+use Rattle.attack_text.proofs.TestLemmas.{are_steps, is_listed, PassesTests, in_range_passes}
+use Rattle.attack_model.specs.Derivations.{are_uses}
+use Rattle.attack_model.specs.Ranges.{InRange}
+use Rattle.attack_model.specs.declared.attack.TheConstants.{MAX_PROBES}
+use Rattle.column_lists.specs.Names.{are_columns}
+use Rattle.column_lists.specs.Rows.{column_words, named_row}
+use Rattle.column_lists.proofs.ReadLemmas.{Differ, AreSmall, row_back, row_columns, row_plain}
 use Rattle.attack_text.specs.Reading.{SoFar, nothing, second, opened, with_leak, with_steps, with_root, with_probes, with_large, said_in_range, counts_of_view, leak_in_order, leak_at, with_listing, added, unless_fault, attack_from, after_line, is_listing, attack_of}
-use Rattle.attack_text.specs.declared.attack.Attack.{Attack}
-use Rattle.attack_text.specs.declared.attack.Derivation.{Derivation}
-use Rattle.attack_text.specs.declared.attack.Listing.{Listing}
-use Rattle.attack_text.specs.declared.attack.Listing.TheVariants.{Probes, Large}
-use Rattle.attack_text.specs.declared.attack.Probe.{Probe}
-use Rattle.attack_text.specs.declared.attack.Side.{Side}
-use Rattle.attack_text.specs.declared.attack.Side.TheVariants.{Left, Right}
-use Rattle.attack_text.specs.declared.attack.Step.{Step}
+use Rattle.attack_model.specs.declared.attack.Attack.{Attack}
+use Rattle.attack_model.specs.declared.attack.Derivation.{Derivation}
+use Rattle.attack_model.specs.declared.attack.Listing.{Listing}
+use Rattle.attack_model.specs.declared.attack.Listing.TheVariants.{Probes, Large}
+use Rattle.attack_model.specs.declared.attack.Probe.{Probe}
+use Rattle.linear_view.specs.declared.operand.Side.{Side}
+use Rattle.linear_view.specs.declared.operand.Side.TheVariants.{Left, Right}
+use Rattle.attack_model.specs.declared.attack.Step.{Step}
 use Rattle.attack_text.specs.declared.read.CertFault.{CertFault}
 use Rattle.attack_text.specs.declared.read.CertFault.TheVariants as fault
-use Rattle.attack_text.proofs.LeakLemmas.{skip_first}
 use Rattle.text_lines.specs.Lines.{lines_of}
 use Rattle.text_lines.specs.Numbers.{is_number, value_of}
-use Rattle.text_lines.specs.Words.{line_text}
-use Rattle.text_lines.proofs.WrittenLemmas.{is_plain, is_plain_word, are_plain_words, list_all_weaker, list_all_append, split_word, split_last, lines_of_line, decimal_digits, value_of_decimal, is_number_decimal, is_plain_decimal}
+use Rattle.text_lines.specs.Words.{line_text, is_plain_word, are_plain_words}
+use Rattle.text_lines.proofs.WrittenLemmas.{lines_of_line, decimal_digits, value_of_decimal, is_number_decimal, is_plain_decimal}
 
 -- numbers
 uses_plain : (least n : ℕ) (uses : List ℕ) → n < 2 ^ 64 → are_uses least n uses ≡ true → are_plain_words (map decimal uses) ≡ true
@@ -55,149 +57,6 @@ uses_values least n (earlier ∷ uses) small h =
     let v = and_parts (leb least earlier) (ltb earlier n) w.0 in
     let below : earlier < n = ltb-true earlier n v.1 in
     ap (λ (m : ℕ). m ∷ map value_of (map decimal uses)) (value_of_decimal earlier (omega arith)) ∙ ap (λ (ms : List ℕ). earlier ∷ ms) (uses_values (suc earlier) n uses small w.1)
-
--- columns
-no_dot_digit : (x : ℕ) → is_ascii_digit x ≡ true → not (eqb x 46) ≡ true
-no_dot_digit x h =
-    let w = and_parts (leb 48 x) (leb x 57) h in
-    let low : 48 ≤ x = leb-true 48 x w.0 in
-    not_from_false (eqb x 46) (ne_eqb x 46 (λ (e : x ≡ 46). omega arith))
-
-no_dot : (n : ℕ) → n < 2 ^ 64 → list_all (λ byte. not (eqb byte 46)) (decimal n) ≡ true
-no_dot n h = list_all_weaker is_ascii_digit (λ byte. not (eqb byte 46)) no_dot_digit (decimal n) (decimal_digits n h)
-
-place_parts : (n b : ℕ) → n < 2 ^ 64 → b < 2 ^ 64 → slice_split (λ byte. eqb byte 46) ((decimal n ++ codes ".") ++ decimal b) ≡ decimal n ∷ decimal b ∷ []
-place_parts n b h k =
-    ap (slice_split (λ byte. eqb byte 46)) (append_assoc (decimal n) (codes ".") (decimal b))
-    ∙ split_word 46 (decimal n) (decimal b) (no_dot n h)
-    ∙ ap (λ (ps : List (List ℕ)). decimal n ∷ ps) (split_last 46 (decimal b) (no_dot b k))
-
-parts_back : (kind : ColumnKind) (n b : ℕ) → n < 2 ^ 64 → b < 2 ^ 64 → column_of_parts (Some kind) (decimal n ∷ decimal b ∷ []) ≡ Some (record { kind = kind; number = n; bit = b })
-parts_back kind n b h k = rw (is_number_decimal n h, is_number_decimal b k, value_of_decimal n h, value_of_decimal b k) refl
-
-kind_back : (kind : ColumnKind) (n b : ℕ) → n < 2 ^ 64 → b < 2 ^ 64 → column_of (((kind_text kind ++ decimal n) ++ codes ".") ++ decimal b) ≡ Some (record { kind = kind; number = n; bit = b })
-kind_back Input n b h k = ap (column_of_parts (Some Input)) (place_parts n b h k) ∙ parts_back Input n b h k
-kind_back Product n b h k = ap (column_of_parts (Some Product)) (place_parts n b h k) ∙ parts_back Product n b h k
-kind_back Refresh n b h k = ap (column_of_parts (Some Refresh)) (place_parts n b h k) ∙ parts_back Refresh n b h k
-
-column_back : (column : Column) → column.number < 2 ^ 32 → column.bit < 2 ^ 32 → column_of (column_text column) ≡ Some column
-column_back column h k = kind_back column.kind column.number column.bit (omega arith) (omega arith)
-
-kind_plain : (kind : ColumnKind) → is_plain_word (kind_text kind) ≡ true
-kind_plain Input = refl
-kind_plain Product = refl
-kind_plain Refresh = refl
-
-column_plain : (column : Column) → column.number < 2 ^ 32 → column.bit < 2 ^ 32 → is_plain_word (column_text column) ≡ true
-column_plain column h k =
-    list_all_append is_plain ((kind_text column.kind ++ decimal column.number) ++ codes ".") (decimal column.bit)
-    (list_all_append is_plain (kind_text column.kind ++ decimal column.number) (codes ".")
-    (list_all_append is_plain (kind_text column.kind) (decimal column.number) (kind_plain column.kind) (is_plain_decimal column.number (omega arith))) refl)
-    (is_plain_decimal column.bit (omega arith))
-
-same_kind : (kind : ColumnKind) → bytes_eq (kind_text kind) (kind_text kind) ≡ true
-same_kind Input = refl
-same_kind Product = refl
-same_kind Refresh = refl
-
-kinds_are : (a b : ColumnKind) → bytes_eq (kind_text a) (kind_text b) ≡ true → a ≡ b
-kinds_are Input Input h = refl
-kinds_are Input Product h = absurd (false≢true h)
-kinds_are Input Refresh h = absurd (false≢true h)
-kinds_are Product Input h = absurd (false≢true h)
-kinds_are Product Product h = refl
-kinds_are Product Refresh h = absurd (false≢true h)
-kinds_are Refresh Input h = absurd (false≢true h)
-kinds_are Refresh Product h = absurd (false≢true h)
-kinds_are Refresh Refresh h = refl
-
-column_is_itself : (column : Column) → is_column (Some column) column ≡ true
-column_is_itself column =
-    and_from (bytes_eq (kind_text column.kind) (kind_text column.kind) && eqb column.number column.number) (eqb column.bit column.bit)
-    (and_from (bytes_eq (kind_text column.kind) (kind_text column.kind)) (eqb column.number column.number) (same_kind column.kind) (eq-eqb column.number column.number refl))
-    (eq-eqb column.bit column.bit refl)
-
-pub columns_are : (a b : Column) → is_column (Some a) b ≡ true → a ≡ b
-columns_are a b h =
-    let w = and_parts (bytes_eq (kind_text a.kind) (kind_text b.kind) && eqb a.number b.number) (eqb a.bit b.bit) h in
-    let v = and_parts (bytes_eq (kind_text a.kind) (kind_text b.kind)) (eqb a.number b.number) w.0 in
-    let made : ColumnKind → ℕ → ℕ → Column = λ k n m. record { kind = k; number = n; bit = m } in
-    ap (λ (k : ColumnKind). made k a.number a.bit) (kinds_are a.kind b.kind v.0)
-    ∙ ap (λ (n : ℕ). made b.kind n a.bit) (eqb-true a.number b.number v.1)
-    ∙ ap (λ (m : ℕ). made b.kind b.number m) (eqb-true a.bit b.bit w.1)
-
-abbrev pub AreSmall : List Column → Type 0
-AreSmall columns = All IsSmallName columns
-
-pub small_parts : (column : Column) (columns : List Column) → AreSmall (column ∷ columns) → (column.number < 2 ^ 32) × (column.bit < 2 ^ 32) × AreSmall columns
-small_parts column columns small =
-    let first : IsSmallName column = small 0 column (omega arith) in
-    (first.0, first.1, λ k d within. small (suc k) d (omega arith))
-
-abbrev Differ : List Column → Type 0
-Differ columns = (b c : ℕ) (name : Column) → slice_get columns b ≡ Some name → slice_get columns c ≡ Some name → b ≡ c
-
-later_differ : (column : Column) (columns : List Column) → Differ (column ∷ columns) → Differ columns
-later_differ column columns differ b c name e f = let same : suc b ≡ suc c = differ (suc b) (suc c) name e f in omega arith
-
-first_differs : (column : Column) (columns : List Column) → Differ (column ∷ columns) → (j : ℕ) (other : Column) → slice_get columns j ≡ Some other → is_column (Some other) column ≡ false
-first_differs column columns differ j other e =
-    elim (cases_Bool (is_column (Some other) column)) [
-      | inl same ↦
-          (let is : other ≡ column = columns_are other column same in
-          let clash : suc j ≡ 0 = differ (suc j) 0 column (e ∙ ap (λ (x : Column). Some x) is) refl in
-          absurd (omega arith))
-      | inr differs ↦ differs
-    ]
-
-none_first : (word : List ℕ) (more : List (List ℕ)) → [] ≡ word ∷ more → ⊥
-none_first word more e = cc
-
-heads_are : (a b : List ℕ) (xs ys : List (List ℕ)) → a ∷ xs ≡ b ∷ ys → a ≡ b
-heads_are a b xs ys e = cc
-
-first_other : (columns : List Column) (leak : List Bool) (column : Column) → ((j : ℕ) (other : Column) → slice_get columns j ≡ Some other → is_column (Some other) column ≡ false)
-    → AreSmall columns → (word : List ℕ) (more : List (List ℕ)) → leak_words columns leak ≡ word ∷ more → is_column (column_of word) column ≡ false
-first_other [] leak column others small word more e = absurd (none_first word more e)
-first_other (next ∷ columns) [] column others small word more e = absurd (none_first word more e)
-first_other (next ∷ columns) (true ∷ leak) column others small word more e =
-    let w = small_parts next columns small in
-    let heads : column_text next ≡ word = heads_are (column_text next) word (leak_words columns leak) more e in
-    ap (λ (x : List ℕ). is_column (column_of x) column) (sym heads) ∙ ap (λ (o : Option Column). is_column o column) (column_back next w.0 w.1) ∙ others 0 next refl
-first_other (next ∷ columns) (false ∷ leak) column others small word more e =
-    first_other columns leak column (λ j other f. others (suc j) other f) (small_parts next columns small).2 word more e
-
-leak_back : (columns : List Column) (leak : List Bool) → Differ columns → AreSmall columns → length leak ≡ length columns → leak_of columns (leak_words columns leak) ≡ Some leak
-leak_back [] [] differ small size = refl
-leak_back [] (bit ∷ leak) differ small size = absurd (omega arith)
-leak_back (column ∷ columns) [] differ small size = absurd (omega arith)
-leak_back (column ∷ columns) (true ∷ leak) differ small size =
-    let w = small_parts column columns small in
-    let words : List (List ℕ) = leak_words columns leak in
-    let named : is_column (column_of (column_text column)) column ≡ true = ap (λ (o : Option Column). is_column o column) (column_back column w.0 w.1) ∙ column_is_itself column in
-    cond-true (is_column (column_of (column_text column)) column) (option_map (λ bits. true ∷ bits) (leak_of columns words))
-    (option_map (λ bits. false ∷ bits) (leak_of columns (column_text column ∷ words))) named
-    ∙ ap (option_map (λ bits. true ∷ bits)) (leak_back columns leak (later_differ column columns differ) w.2 (omega arith))
-leak_back (column ∷ columns) (false ∷ leak) differ small size =
-    let w = small_parts column columns small in
-    skip_first column columns (leak_words columns leak) (first_other columns leak column (first_differs column columns differ) w.2)
-    ∙ ap (option_map (λ bits. false ∷ bits)) (leak_back columns leak (later_differ column columns differ) w.2 (omega arith))
-
-leak_columns : (columns : List Column) (leak : List Bool) → AreSmall columns → list_all (λ word. is_some (column_of word)) (leak_words columns leak) ≡ true
-leak_columns [] leak small = refl
-leak_columns (column ∷ columns) [] small = refl
-leak_columns (column ∷ columns) (true ∷ leak) small =
-    let w = small_parts column columns small in
-    and_from (is_some (column_of (column_text column))) (list_all (λ word. is_some (column_of word)) (leak_words columns leak)) (ap is_some (column_back column w.0 w.1)) (leak_columns columns leak w.2)
-leak_columns (column ∷ columns) (false ∷ leak) small = leak_columns columns leak (small_parts column columns small).2
-
-leak_plain : (columns : List Column) (leak : List Bool) → AreSmall columns → are_plain_words (leak_words columns leak) ≡ true
-leak_plain [] leak small = refl
-leak_plain (column ∷ columns) [] small = refl
-leak_plain (column ∷ columns) (true ∷ leak) small =
-    let w = small_parts column columns small in
-    and_from (is_plain_word (column_text column)) (are_plain_words (leak_words columns leak)) (column_plain column w.0 w.1) (leak_plain columns leak w.2)
-leak_plain (column ∷ columns) (false ∷ leak) small = leak_plain columns leak (small_parts column columns small).2
 
 -- one line that is written is read
 line_back : (view : LinearView) (so_far next : SoFar) (k : ℕ) (word : List ℕ) (words : List (List ℕ)) (rest : List ℕ) → are_plain_words (word ∷ words) ≡ true
@@ -349,13 +208,13 @@ head_back view rest hc hp =
 
 -- the leak
 leak_line_back : (view : LinearView) (k : ℕ) (leak : List Bool) → Differ view.columns → AreSmall view.columns → length leak ≡ length view.columns
-    → after_line view opened k (codes "leak" ∷ leak_words view.columns leak) ≡ Ok (with_leak leak)
+    → after_line view opened k (codes "leak" ∷ column_words view.columns leak) ≡ Ok (with_leak leak)
 leak_line_back view k leak differ small size =
-    let words : List (List ℕ) = leak_words view.columns leak in
+    let words : List (List ℕ) = column_words view.columns leak in
     let form : leak_form (codes "leak" ∷ words) ≡ Some words =
-    cond-true (list_all (λ word. is_some (column_of word)) words) (Some words) None (leak_columns view.columns leak small) in
+    cond-true (are_columns words) (Some words) None (row_columns view.columns leak small) in
     ap (λ (o : Option (List (List ℕ))). added with_leak (leak_at view k o)) form
-    ∙ ap (λ (o : Option (List Bool)). added with_leak (leak_in_order k o)) (leak_back view.columns leak differ small size)
+    ∙ ap (λ (o : Option (List Bool)). added with_leak (leak_in_order k o)) (row_back view.columns leak differ small size)
 
 -- the count of the steps
 steps_form_back : (n : ℕ) → n < 2 ^ 64 → steps_form (codes "steps" ∷ decimal n ∷ []) ≡ Some n
@@ -391,8 +250,8 @@ listing_back : (view : LinearView) (derivation : Derivation) (listing : Listing)
     → attack_from view (with_root derivation) k (lines_of (listing_text listing)) ≡ Ok (record { derivation = derivation; listing = listing })
 listing_back view derivation (Probes probes) k few listed =
     let t : ℕ = length probes in
-    let w = and_parts (leb t most_probes) (list_all (is_probe view t) probes) listed in
-    let small : t ≤ 100000 = leb-true t most_probes w.0 in
+    let w = and_parts (leb t MAX_PROBES) (list_all (is_probe view t) probes) listed in
+    let small : t ≤ 100000 = leb-true t MAX_PROBES w.0 in
     let says : after_line view (with_root derivation) k (codes "probes" ∷ decimal t ∷ []) ≡ Ok (with_probes derivation t []) =
     ap (added (with_listing derivation)) (said_back k (listing_form (codes "probes" ∷ decimal t ∷ [])) is_listing (Some t) (listing_form_back t (omega arith)) w.0) in
     let plain : are_plain_words (codes "probes" ∷ decimal t ∷ []) ≡ true = rw (is_plain_decimal t (omega arith)) refl in
@@ -406,7 +265,7 @@ listing_back view derivation Large k few listed =
     ∙ line_back view (with_root derivation) (with_large derivation) k (codes "probes") (codes "large" ∷ []) [] refl refl
 
 -- from the leak on
-body_back : (view : LinearView) (attack : Attack) (k : ℕ) → IsView view → InRange view attack → attack_from view opened k (lines_of (body_text view attack)) ≡ Ok attack
+body_back : (view : LinearView) (attack : Attack) (k : ℕ) → IsView view → PassesTests view attack → attack_from view opened k (lines_of (body_text view attack)) ≡ Ok attack
 body_back view attack k is_view in_range =
     let leak : List Bool = attack.derivation.leak in
     let steps : List Step = attack.derivation.steps in
@@ -419,7 +278,7 @@ body_back view attack k is_view in_range =
     let after_leak : List ℕ = counted_steps_text steps ++ end in
     let stepped = steps_back view leak n [] steps end (k + 1 + 1) (omega arith) (omega arith) (omega arith) in_range.steps in
     let leaked : attack_from view opened k (lines_of (leak_text view.columns leak ++ after_leak)) ≡ attack_from view (with_leak leak) (k + 1) (lines_of after_leak) =
-    line_back view opened (with_leak leak) k (codes "leak") (leak_words view.columns leak) after_leak (leak_plain view.columns leak is_view.small_names)
+    line_back view opened (with_leak leak) k (codes "leak") (column_words view.columns leak) after_leak (row_plain view.columns leak is_view.small_names)
     (leak_line_back view k leak is_view.names_differ is_view.small_names in_range.leak) in
     let counted_plain : are_plain_words (codes "steps" ∷ decimal n ∷ []) ≡ true = rw (is_plain_decimal n (omega arith)) refl in
     let counted : attack_from view (with_leak leak) (k + 1) (lines_of after_leak) ≡ attack_from view (with_steps leak n []) (k + 1 + 1) (lines_of (steps_text 0 steps ++ end)) =
@@ -436,8 +295,8 @@ pub text_back : (view : LinearView) (attack : Attack) → IsView view → InRang
 text_back view attack is_view in_range =
     let columns_few : length view.columns ≤ 32768 = is_view.columns_fit in
     let products_few : length view.products ≤ 32768 = is_view.products_fit in
-    head_back view (body_text view attack) (omega arith) (omega arith) ∙ body_back view attack 3 is_view in_range
+    head_back view (body_text view attack) (omega arith) (omega arith) ∙ body_back view attack 3 is_view (in_range_passes view attack in_range)
 
 pub first_version_back : (view : LinearView) (attack : Attack) → IsView view → InRange view attack → attack_of view (first_version_text view attack) ≡ Ok attack
 first_version_back view attack is_view in_range =
-    line_back view nothing opened 1 (codes "attack") [] (body_text view attack) refl refl ∙ body_back view attack 2 is_view in_range
+    line_back view nothing opened 1 (codes "attack") [] (body_text view attack) refl refl ∙ body_back view attack 2 is_view (in_range_passes view attack in_range)

@@ -3,25 +3,31 @@ use Rattle.std.proofs.Common.{◌≡◌, ℕ, suc, ◌+◌, ◌*◌, ◌^◌, �
 use Rattle.std.specs.List.{list_all}
 use Rattle.std.proofs.lemmas.Bool.{cases_Bool, and_parts, ltb-true, ltb-false, leb-true, eqb-true}
 use Rattle.linear_view.specs.View.{LinearView, IsView}
-use Rattle.attack_text.specs.AttackText.{leak_words, core_words, step_words, steps_text, steps_count_text, counted_steps_text, root_text, probe_words, probes_text, listing_text, body_text, attack_text, first_version_text}
+use Rattle.attack_text.specs.AttackText.{core_words, step_words, steps_text, steps_count_text, counted_steps_text, root_text, probe_words, probes_text, listing_text, body_text, attack_text, first_version_text}
 use Rattle.attack_text.specs.Forms.{Counts, version_form, core_form, leak_form, steps_form, step_form, root_form, listing_form, probe_form}
-use Rattle.attack_text.specs.Ranges.{leak_of, are_uses, is_steps_count, is_step, is_probe, is_listed, most_probes, InRange}
+use Rattle.attack_text.specs.Ranges.{is_steps_count, is_step, is_probe}
+use Rattle.attack_text.proofs.TestLemmas.{is_listed, PassesTests, in_range_passes}
+use Rattle.attack_model.specs.Derivations.{are_uses}
+use Rattle.attack_model.specs.Ranges.{InRange}
+use Rattle.attack_model.specs.declared.attack.TheConstants.{MAX_PROBES}
+use Rattle.column_lists.specs.Rows.{column_words, named_row}
+use Rattle.column_lists.proofs.ReadLemmas.{AreSmall}
+use Rattle.column_lists.proofs.WrittenLemmas.{words_are}
 use Rattle.attack_text.specs.Reading.{SoFar, nothing, second, opened, with_leak, with_steps, with_root, with_probes, with_large, said_in_range, counts_of_view, leak_at, added, with_version, with_listing, is_listing, unless_fault, at_end, attack_from, attack_of, version_line, core_line, leak_line, steps_line, step_line, root_line, listing_line, probe_line}
-use Rattle.attack_text.specs.declared.attack.Attack.{Attack}
-use Rattle.attack_text.specs.declared.attack.Derivation.{Derivation}
-use Rattle.attack_text.specs.declared.attack.Listing.{Listing}
-use Rattle.attack_text.specs.declared.attack.Listing.TheVariants.{Probes, Large}
-use Rattle.attack_text.specs.declared.attack.Probe.{Probe}
-use Rattle.attack_text.specs.declared.attack.Step.{Step}
+use Rattle.attack_model.specs.declared.attack.Attack.{Attack}
+use Rattle.attack_model.specs.declared.attack.Derivation.{Derivation}
+use Rattle.attack_model.specs.declared.attack.Listing.{Listing}
+use Rattle.attack_model.specs.declared.attack.Listing.TheVariants.{Probes, Large}
+use Rattle.attack_model.specs.declared.attack.Probe.{Probe}
+use Rattle.attack_model.specs.declared.attack.Step.{Step}
 use Rattle.attack_text.specs.declared.read.CertFault.{CertFault}
 use Rattle.attack_text.specs.declared.read.CertFault.TheVariants as fault
-use Rattle.attack_text.proofs.CutBackLemmas.{text_back_of}
-use Rattle.attack_text.proofs.FormBackLemmas.{leak_words_are, second_version_words, first_version_words, core_words_are, leak_line_words, steps_words_are, step_words_are, root_words_are, large_words, listed_words, probe_words_are}
+use Rattle.attack_text.proofs.FormBackLemmas.{second_version_words, first_version_words, core_words_are, leak_line_words, steps_words_are, step_words_are, root_words_are, large_words, listed_words, probe_words_are}
 use Rattle.attack_text.proofs.RangeLemmas.{no_ok, then_ok, pick_ok, said_ok, in_order_ok, value_or, read_in_range}
-use Rattle.attack_text.proofs.RoundLemmas.{AreSmall}
 use Rattle.text_lines.specs.Lines.{lines_of}
 use Rattle.text_lines.specs.Words.{line_text}
 use Rattle.text_lines.proofs.LineLemmas.{lines_of_empty}
+use Rattle.text_lines.proofs.SpelledLemmas.{text_back_of}
 
 -- the text after the count of the steps
 record StepsLeft (attack : Attack) (leak : List Bool) (n : ℕ) (steps : List Step) (bytes : List ℕ) : Type 0 where
@@ -93,20 +99,20 @@ after_core view attack k words counts bytes rest hc hp e said left =
     (known ∙ ap (λ (c : ℕ). core_words c counts.products) w.1 ∙ ap (core_words (length view.columns)) w.2) left
 
 leak_is : (view : LinearView) (k : ℕ) (form : Option (List (List ℕ))) (leak : List Bool) → leak_at view k form ≡ Ok leak
-    → (columns : List (List ℕ)) × (form ≡ Some columns) × (leak_of view.columns columns ≡ Some leak)
+    → (columns : List (List ℕ)) × (form ≡ Some columns) × (named_row view.columns columns ≡ Some leak)
 leak_is view k None leak e = absurd (no_ok (fault.Syntax k) leak e)
-leak_is view k (Some columns) leak e = (columns, refl, in_order_ok k (leak_of view.columns columns) leak e)
+leak_is view k (Some columns) leak e = (columns, refl, in_order_ok k (named_row view.columns columns) leak e)
 
 after_leak : (view : LinearView) (attack : Attack) (k : ℕ) (words : List (List ℕ)) (leak : List Bool) (bytes rest : List ℕ) → AreSmall view.columns
     → bytes ≡ line_text words ++ rest → leak_line view k words ≡ Ok leak → Left view attack (with_leak leak) rest → Left view attack opened bytes
 after_leak view attack k words leak bytes rest small e said left =
     let w = leak_is view k (leak_form words) leak said in
-    let known : words ≡ codes "leak" ∷ leak_words view.columns attack.derivation.leak =
+    let known : words ≡ codes "leak" ∷ column_words view.columns attack.derivation.leak =
     leak_line_words words w.0 w.1
-    ∙ ap (λ (ws : List (List ℕ)). codes "leak" ∷ ws) (leak_words_are view.columns w.0 leak small w.2)
-    ∙ ap (λ (bits : List Bool). codes "leak" ∷ leak_words view.columns bits) (sym left.0) in
+    ∙ ap (λ (ws : List (List ℕ)). codes "leak" ∷ ws) (words_are view.columns w.0 leak small w.2)
+    ∙ ap (λ (bits : List Bool). codes "leak" ∷ column_words view.columns bits) (sym left.0) in
     line_is bytes rest (counted_steps_text attack.derivation.steps ++ (root_text attack.derivation.root ++ listing_text attack.listing)) words
-    (codes "leak" ∷ leak_words view.columns attack.derivation.leak) e known left.1
+    (codes "leak" ∷ column_words view.columns attack.derivation.leak) e known left.1
 
 after_count : (view : LinearView) (attack : Attack) (k : ℕ) (words : List (List ℕ)) (leak : List Bool) (n : ℕ) (bytes rest : List ℕ)
     → length view.products ≤ 32768 → bytes ≡ line_text words ++ rest → steps_line view k words ≡ Ok n
@@ -126,7 +132,7 @@ after_count view attack k words leak n bytes rest hp e said left =
     )
 
 after_step : (view : LinearView) (attack : Attack) (k : ℕ) (words : List (List ℕ)) (leak : List Bool) (n : ℕ) (steps : List Step) (step : Step) (bytes rest : List ℕ)
-    → length view.products ≤ 32768 → InRange view attack → length steps < n → bytes ≡ line_text words ++ rest → step_line view (length steps) k words ≡ Ok step
+    → length view.products ≤ 32768 → PassesTests view attack → length steps < n → bytes ≡ line_text words ++ rest → step_line view (length steps) k words ≡ Ok step
     → Left view attack (with_steps leak n (steps ++ step ∷ [])) rest → StepsLeft attack leak n steps bytes
 after_step view attack k words leak n steps step bytes rest hp in_range below e said left =
     let end : List ℕ = root_text attack.derivation.root ++ listing_text attack.listing in
@@ -150,7 +156,7 @@ after_step view attack k words leak n steps step bytes rest hp in_range below e 
     }
 
 after_root : (view : LinearView) (attack : Attack) (k : ℕ) (words : List (List ℕ)) (leak : List Bool) (n : ℕ) (steps : List Step) (root : List ℕ) (bytes rest : List ℕ)
-    → length view.products ≤ 32768 → InRange view attack → length steps ≡ n → bytes ≡ line_text words ++ rest → root_line n k words ≡ Ok root
+    → length view.products ≤ 32768 → PassesTests view attack → length steps ≡ n → bytes ≡ line_text words ++ rest → root_line n k words ≡ Ok root
     → Left view attack (with_root (record { leak = leak; steps = steps; root = root })) rest → StepsLeft attack leak n steps bytes
 after_root view attack k words leak n steps root bytes rest hp in_range all e said left =
     let few : length attack.derivation.steps ≤ 2 * length view.products = leb-true (length attack.derivation.steps) (2 * length view.products) in_range.steps_count in
@@ -177,7 +183,7 @@ after_listing view attack k words derivation None bytes rest e said left = (
       ∙ ap listing_text (sym left.1),
 )
 after_listing view attack k words derivation (Some t) bytes rest e said left =
-    let few : t ≤ 100000 = leb-true t most_probes (said_ok k (listing_form words) is_listing (Some t) said) in
+    let few : t ≤ 100000 = leb-true t MAX_PROBES (said_ok k (listing_form words) is_listing (Some t) said) in
     let more : ProbesLeft attack derivation t [] rest = left (omega arith) in
     let known : words ≡ codes "probes" ∷ decimal (length more.later) ∷ [] =
     listed_words words t (said_is k (listing_form words) is_listing (Some t) said) (omega arith)
@@ -189,11 +195,11 @@ after_listing view attack k words derivation (Some t) bytes rest e said left =
 
 listed_few : (view : LinearView) (listing : Listing) (probes : List Probe) → is_listed view listing ≡ true → listing ≡ Probes probes → length probes ≤ 100000
 listed_few view listing probes h e =
-    let listed : leb (length probes) most_probes && list_all (is_probe view (length probes)) probes ≡ true = ap (is_listed view) (sym e) ∙ h in
-    leb-true (length probes) most_probes (and_parts (leb (length probes) most_probes) (list_all (is_probe view (length probes)) probes) listed).0
+    let listed : leb (length probes) MAX_PROBES && list_all (is_probe view (length probes)) probes ≡ true = ap (is_listed view) (sym e) ∙ h in
+    leb-true (length probes) MAX_PROBES (and_parts (leb (length probes) MAX_PROBES) (list_all (is_probe view (length probes)) probes) listed).0
 
 after_probe : (view : LinearView) (attack : Attack) (k : ℕ) (words : List (List ℕ)) (derivation : Derivation) (t : ℕ) (probes : List Probe) (probe : Probe) (bytes rest : List ℕ)
-    → length view.products ≤ 32768 → InRange view attack → length probes < t → bytes ≡ line_text words ++ rest → probe_line view t k words ≡ Ok probe
+    → length view.products ≤ 32768 → PassesTests view attack → length probes < t → bytes ≡ line_text words ++ rest → probe_line view t k words ≡ Ok probe
     → Left view attack (with_probes derivation t (probes ++ probe ∷ [])) rest → ProbesLeft attack derivation t probes bytes
 after_probe view attack k words derivation t probes probe bytes rest hp in_range below e said left =
     let longer : length (probes ++ probe ∷ []) ≡ suc (length probes) = omega (arith, length-append probes (probe ∷ [])) in
@@ -248,7 +254,7 @@ ends view attack (with_large derivation) k bytes none e =
     let same : whole ≡ attack = ap (value_or whole) e in
     (ap (λ (a : Attack). a.derivation) (sym same), ap (λ (a : Attack). a.listing) (sym same), none)
 
-left_of : (view : LinearView) (attack : Attack) → IsView view → InRange view attack → (lines : List (Option (List (List ℕ)))) (so_far : SoFar) (k : ℕ) (bytes : List ℕ)
+left_of : (view : LinearView) (attack : Attack) → IsView view → PassesTests view attack → (lines : List (Option (List (List ℕ)))) (so_far : SoFar) (k : ℕ) (bytes : List ℕ)
     → lines_of bytes ≡ lines → attack_from view so_far k lines ≡ Ok attack → Left view attack so_far bytes
 left_of view attack is_view in_range [] so_far k bytes l e = ends view attack so_far k bytes (lines_of_empty bytes l) e
 left_of view attack is_view in_range (None ∷ lines) so_far k bytes l e = absurd (no_ok (fault.Syntax k) attack e)
@@ -308,4 +314,4 @@ pub only_written : (view : LinearView) (bytes : List ℕ) (attack : Attack) → 
     → InRange view attack × ((bytes ≡ attack_text view attack) ⊎ (bytes ≡ first_version_text view attack))
 only_written view bytes attack is_view e =
     let in_range : InRange view attack = read_in_range view (lines_of bytes) nothing 1 attack tt e in
-    (in_range, left_of view attack is_view in_range (lines_of bytes) nothing 1 bytes refl e)
+    (in_range, left_of view attack is_view (in_range_passes view attack in_range) (lines_of bytes) nothing 1 bytes refl e)

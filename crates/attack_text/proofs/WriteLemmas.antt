@@ -1,13 +1,14 @@
 -- The texts of the parts of an attack, joined.
 use Rattle.std.proofs.Common.{◌≡◌, ℕ, suc, ◌+◌, ◌<◌, ◌≤◌, Bool, true, false, List, [], ◌∷◌, ◌++◌, length, get_or, take, drop, map, refl, sym, ap, ◌∙◌, arith, append_assoc, append-nil, add-one, drop-cons, codes, decimal, flat_map, Option, None, Some, slice_get, option_to_list}
 use Rattle.std.proofs.lemmas.List.{take_more, take-append-drop, length-take-le}
-use Rattle.std.proofs.lemmas.Option.{get_or_from_slice_get, slice_get-get_or}
-use Rattle.linear_view.specs.RowsText.{column_text}
+use Rattle.linear_view.specs.RowsText.{row_text}
 use Rattle.linear_view.specs.View.{LinearView}
 use Rattle.linear_view.specs.declared.column.Column.{Column}
-use Rattle.attack_text.specs.AttackText.{leak_words, side_word, step_words, steps_text, counted_steps_text, head_text, leak_text, root_text, listing_text, attack_text}
-use Rattle.attack_text.specs.declared.attack.Attack.{Attack}
-use Rattle.attack_text.specs.declared.attack.Step.{Step}
+use Rattle.column_lists.specs.Rows.{column_words}
+use Rattle.column_lists.proofs.ReadLemmas.{spaced_words}
+use Rattle.attack_text.specs.AttackText.{side_word, step_words, steps_text, counted_steps_text, head_text, leak_text, root_text, listing_text, attack_text}
+use Rattle.attack_model.specs.declared.attack.Attack.{Attack}
+use Rattle.attack_model.specs.declared.attack.Step.{Step}
 use Rattle.text_lines.specs.Words.{line_text, spaced}
 
 -- a line and the words after the first, from their front
@@ -69,10 +70,6 @@ pub uses_are : (uses : List ℕ) → flat_map use_text uses ≡ spaced (map deci
 uses_are [] = refl
 uses_are (number ∷ uses) = ap (λ (rest : List ℕ). use_text number ++ rest) (uses_are uses)
 
-pub spaced_append : (a b : List (List ℕ)) → spaced (a ++ b) ≡ spaced a ++ spaced b
-spaced_append [] b = refl
-spaced_append (word ∷ a) b = ap (λ (rest : List ℕ). (codes " " ++ word) ++ rest) (spaced_append a b) ∙ sym (append_assoc (codes " " ++ word) (spaced a) (spaced b))
-
 -- steps
 steps_text_append : (k : ℕ) (a b : List Step) → steps_text k (a ++ b) ≡ steps_text k a ++ steps_text (k + length a) b
 steps_text_append k [] b = ap (λ (m : ℕ). steps_text m b) (omega arith)
@@ -103,46 +100,11 @@ steps_text_around steps i d h =
     ∙ steps_text_append 0 (take i steps) (step ∷ drop (i + 1) steps)
     ∙ ap (λ (m : ℕ). steps_text 0 (take i steps) ++ steps_text m (step ∷ drop (i + 1) steps)) len)
 
--- columns
-leak_words_append : (a b : List Column) (la lb : List Bool) → length a ≡ length la → leak_words (a ++ b) (la ++ lb) ≡ leak_words a la ++ leak_words b lb
-leak_words_append [] b [] lb h = refl
-leak_words_append [] b (l ∷ la) lb h = absurd (omega arith)
-leak_words_append (c ∷ a) b [] lb h = absurd (omega arith)
-leak_words_append (c ∷ a) b (true ∷ la) lb h = ap (λ (ws : List (List ℕ)). column_text c ∷ ws) (leak_words_append a b la lb (omega arith))
-leak_words_append (c ∷ a) b (false ∷ la) lb h = leak_words_append a b la lb (omega arith)
-
-leak_text_append : (a b : List Column) (la lb : List Bool) → length a ≡ length la
-    → spaced (leak_words a la) ++ spaced (leak_words b lb) ≡ spaced (leak_words (a ++ b) (la ++ lb))
-leak_text_append a b la lb h = sym (ap spaced (leak_words_append a b la lb h) ∙ spaced_append (leak_words a la) (leak_words b lb))
-
-none_found : (columns : List Column) (c : ℕ) → c < length columns → None ≡ slice_get columns c → ⊥
-none_found [] c h e = absurd (omega arith)
-none_found (column ∷ columns) c h e = let some : slice_get (column ∷ columns) c ≡ Some (get_or (column ∷ columns) c column) = slice_get-get_or (column ∷ columns) c column h in cc
-
-pub columns_more : (columns : List Column) (leak : List Bool) (c : ℕ) (found : Option Column) (bit : Bool) → length leak ≡ length columns → c < length columns
-    → found ≡ slice_get columns c → bit ≡ get_or leak c false
-    → spaced (leak_words (take c columns) (take c leak)) ++ spaced (leak_words (option_to_list found) (bit ∷ [])) ≡ spaced (leak_words (take (c + 1) columns) (take (c + 1) leak))
-columns_more columns leak c None bit same h here is_bit = absurd (none_found columns c h here)
-columns_more columns leak c (Some column) bit same h here is_bit =
-    let lens : length (take c columns) ≡ length (take c leak) = length-take-le c columns (omega arith) ∙ sym (length-take-le c leak (omega arith)) in
-    leak_text_append (take c columns) (column ∷ []) (take c leak) (bit ∷ []) lens
-    ∙ ap (λ (cs : List Column). spaced (leak_words cs (take c leak ++ bit ∷ [])))
-    (ap (λ (x : Column). take c columns ++ x ∷ []) (sym (get_or_from_slice_get columns c column column (sym here))) ∙ sym (take_more columns c column h))
-    ∙ ap (λ (ls : List Bool). spaced (leak_words (take (c + 1) columns) ls)) (ap (λ (b : Bool). take c leak ++ b ∷ []) is_bit ∙ sym (take_more leak c false (omega arith)))
-
-pub columns_around : (columns : List Column) (leak : List Bool) (c : ℕ) (found : Option Column) (bit : Bool) → length leak ≡ length columns → c < length columns
-    → found ≡ slice_get columns c → bit ≡ get_or leak c false
-    → spaced (leak_words (take c columns) (take c leak))
-    ++ (spaced (leak_words (option_to_list found) (bit ∷ [])) ++ spaced (leak_words (drop (c + 1) columns) (drop (c + 1) leak)))
-    ≡ spaced (leak_words columns leak)
-columns_around columns leak c found bit same h here is_bit =
-    let lens : length (take (c + 1) columns) ≡ length (take (c + 1) leak) =
-    length-take-le (c + 1) columns (omega arith) ∙ sym (length-take-le (c + 1) leak (omega arith)) in
-    sym (append_assoc (spaced (leak_words (take c columns) (take c leak))) (spaced (leak_words (option_to_list found) (bit ∷ []))) (spaced (leak_words (drop (c + 1) columns) (drop (c + 1) leak))))
-    ∙ ap (λ (t : List ℕ). t ++ spaced (leak_words (drop (c + 1) columns) (drop (c + 1) leak))) (columns_more columns leak c found bit same h here is_bit)
-    ∙ leak_text_append (take (c + 1) columns) (drop (c + 1) columns) (take (c + 1) leak) (drop (c + 1) leak) lens
-    ∙ ap (λ (cs : List Column). spaced (leak_words cs (take (c + 1) leak ++ drop (c + 1) leak))) (take-append-drop (c + 1) columns)
-    ∙ ap (λ (ls : List Bool). spaced (leak_words columns ls)) (take-append-drop (c + 1) leak)
+-- the line of a leak
+pub leak_is : (columns : List Column) (leak : List Bool) → codes "leak" ++ (row_text columns leak ++ codes "\n") ≡ leak_text columns leak
+leak_is columns leak =
+    ap (λ (t : List ℕ). codes "leak" ++ (t ++ codes "\n")) (sym (spaced_words columns leak))
+    ∙ sym (append_assoc (codes "leak") (spaced (column_words columns leak)) (codes "\n"))
 
 -- the parts of the text
 pub attack_text_parts : (view : LinearView) (attack : Attack) (c p : ℕ) (steps : List Step) (uses : List ℕ) → c ≡ length view.columns → p ≡ length view.products

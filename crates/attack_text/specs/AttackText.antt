@@ -1,23 +1,16 @@
 -- How an attack is written: lines of words.
 use Rattle.std.specs.Prelude.{ℕ, suc, List, [], ◌∷◌, ◌++◌, Bool, true, false, codes, decimal, flat_map, map, length}
-use Rattle.linear_view.specs.RowsText.{column_text}
+use Rattle.column_lists.specs.Rows.{column_words}
 use Rattle.linear_view.specs.View.{LinearView}
 use Rattle.linear_view.specs.declared.column.Column.{Column}
-use Rattle.attack_text.specs.declared.attack.Attack.{Attack}
-use Rattle.attack_text.specs.declared.attack.Listing.{Listing}
-use Rattle.attack_text.specs.declared.attack.Listing.TheVariants.{Probes, Large}
-use Rattle.attack_text.specs.declared.attack.Probe.{Probe}
-use Rattle.attack_text.specs.declared.attack.Side.{Side}
-use Rattle.attack_text.specs.declared.attack.Side.TheVariants.{Left, Right}
-use Rattle.attack_text.specs.declared.attack.Step.{Step}
+use Rattle.attack_model.specs.declared.attack.Attack.{Attack}
+use Rattle.attack_model.specs.declared.attack.Listing.{Listing}
+use Rattle.attack_model.specs.declared.attack.Listing.TheVariants.{Probes, Large}
+use Rattle.attack_model.specs.declared.attack.Probe.{Probe}
+use Rattle.linear_view.specs.declared.operand.Side.{Side}
+use Rattle.linear_view.specs.declared.operand.Side.TheVariants.{Left, Right}
+use Rattle.attack_model.specs.declared.attack.Step.{Step}
 use Rattle.text_lines.specs.Words.{line_text}
-
--- those of the columns that leak, in their order
-abbrev pub leak_words : List Column → List Bool → List (List ℕ)
-leak_words [] leak = []
-leak_words (column ∷ columns) [] = []
-leak_words (column ∷ columns) (true ∷ leak) = column_text column ∷ leak_words columns leak
-leak_words (column ∷ columns) (false ∷ leak) = leak_words columns leak
 
 -- a side
 abbrev pub side_word : Side → List ℕ
@@ -57,7 +50,7 @@ listing_text Large = line_text (codes "probes" ∷ codes "large" ∷ [])
 
 -- `leak COLUMN COLUMN ..`
 abbrev pub leak_text : List Column → List Bool → List ℕ
-leak_text columns leak = line_text (codes "leak" ∷ leak_words columns leak)
+leak_text columns leak = line_text (codes "leak" ∷ column_words columns leak)
 
 -- `steps N`
 abbrev pub steps_count_text : ℕ → List ℕ

@@ -1,34 +1,13 @@
 -- The forms of the lines of an attack text, by their words, and what a line of its form says. Numbers may be of any size here.
-use Rattle.std.specs.Prelude.{ℕ, ◌==◌, Bool, true, false, ◌&&◌, if◌then◌else◌, List, [], ◌∷◌, map, is_some, codes, Option, None, Some}
-use Rattle.std.specs.List.{slice_split, list_all}
+use Rattle.std.specs.Prelude.{ℕ, ◌==◌, Bool, true, false, ◌&&◌, if◌then◌else◌, List, [], ◌∷◌, map, codes, Option, None, Some}
+use Rattle.std.specs.List.{list_all}
 use Rattle.std.specs.Str.{bytes_eq}
-use Rattle.linear_view.specs.declared.column.Column.{Column}
-use Rattle.linear_view.specs.declared.column.ColumnKind.{ColumnKind}
-use Rattle.linear_view.specs.declared.column.ColumnKind.TheVariants.{Input, Product, Refresh}
-use Rattle.attack_text.specs.declared.attack.Probe.{Probe}
-use Rattle.attack_text.specs.declared.attack.Side.{Side}
-use Rattle.attack_text.specs.declared.attack.Side.TheVariants.{Left, Right}
-use Rattle.attack_text.specs.declared.attack.Step.{Step}
+use Rattle.attack_model.specs.declared.attack.Probe.{Probe}
+use Rattle.linear_view.specs.declared.operand.Side.{Side}
+use Rattle.linear_view.specs.declared.operand.Side.TheVariants.{Left, Right}
+use Rattle.attack_model.specs.declared.attack.Step.{Step}
+use Rattle.column_lists.specs.Names.{are_columns}
 use Rattle.text_lines.specs.Numbers.{is_number, value_of}
-
--- the kind of columns that a letter stands for
-abbrev pub kind_of : ℕ → Option ColumnKind
-kind_of letter =
-    if letter == 105 then Some Input  -- i
-    else (if letter == 112 then Some Product  -- p
-    else (if letter == 102 then Some Refresh  -- f
-    else None))
-
--- a column of this kind, where two numbers stand behind its letter
-abbrev pub column_of_parts : Option ColumnKind → List (List ℕ) → Option Column
-column_of_parts (Some kind) (number ∷ bit ∷ []) =
-    if is_number number && is_number bit then Some (record { kind = kind; number = value_of number; bit = value_of bit }) else None
-column_of_parts _ _ = None
-
--- the column that a word names: its letter, a number, a dot and a number
-abbrev pub column_of : List ℕ → Option Column
-column_of [] = None
-column_of (letter ∷ place) = column_of_parts (kind_of letter) (slice_split (λ byte. byte == 46) place)
 
 -- the side that a word names
 abbrev pub side_of : List ℕ → Option Side
@@ -55,7 +34,7 @@ core_form _ = None
 -- `leak COLUMN COLUMN ..`: the words of the columns
 abbrev pub leak_form : List (List ℕ) → Option (List (List ℕ))
 leak_form (leak ∷ columns) =
-    if bytes_eq leak (codes "leak") && list_all (λ word. is_some (column_of word)) columns then Some columns else None
+    if bytes_eq leak (codes "leak") && are_columns columns then Some columns else None
 leak_form _ = None
 
 -- `steps N`: the number

@@ -1,30 +1,17 @@
 -- What the functions answer of which each reads a part of the text.
-use Rattle.std.specs.Prelude.{◌≡◌, ℕ, ◌^◌, true, ◌&&◌, nat_lt, if◌then◌else◌, List, [], length, Option, None, Some, Result, Ok, Err}
-use Rattle.std.specs.Option.{option_map_or}
+use Rattle.std.specs.Prelude.{◌≡◌, ℕ, true, length, Option, None, Some, Result, Ok, Err}
 use Rattle.linear_view.specs.View.{LinearView}
-use Rattle.linear_view.specs.declared.column.Column.{Column}
-use Rattle.attack_text.specs.declared.attack.Attack.{Attack}
-use Rattle.attack_text.specs.declared.attack.Derivation.{Derivation}
-use Rattle.attack_text.specs.declared.attack.Listing.{Listing}
-use Rattle.attack_text.specs.declared.attack.Listing.TheVariants.{Probes, Large}
+use Rattle.attack_model.specs.declared.attack.Attack.{Attack}
+use Rattle.attack_model.specs.declared.attack.Derivation.{Derivation}
+use Rattle.attack_model.specs.declared.attack.Listing.{Listing}
+use Rattle.attack_model.specs.declared.attack.Listing.TheVariants.{Probes, Large}
 use Rattle.attack_text.specs.declared.form.ListingWord.{ListingWord}
 use Rattle.attack_text.specs.declared.form.ListingWord.TheVariants as listing
-use Rattle.attack_text.specs.declared.form.Named.{Named}
-use Rattle.attack_text.specs.declared.form.Named.TheVariants as named
 use Rattle.attack_text.specs.declared.read.CertFault.{CertFault}
 use Rattle.attack_text.specs.declared.read.CertFault.TheVariants as fault
-use Rattle.attack_text.specs.Forms.{column_of}
 use Rattle.attack_text.specs.Reading.{SoFar, with_probes, with_large, attack_from}
 use Rattle.text_lines.specs.Lines.{LinesLeft}
 use Rattle.text_lines.specs.Numbers.{is_number, value_of}
-
--- a column that is named, where its numbers fit 32 bits as those of every column do
-abbrev pub fitting : Column → Named
-fitting column = if nat_lt column.number (2 ^ 32) && nat_lt column.bit (2 ^ 32) then named.Known column else named.Unknown
-
--- what a word names
-abbrev pub named_of : List ℕ → Named
-named_of word = option_map_or fitting (column_of word) named.Unknown
 
 -- what the words of the line `probes` say
 abbrev pub IsListing : ListingWord → Option (Option ℕ) → Type 0

@@ -1,16 +1,19 @@
 -- What an attack text says, line by line.
 use Rattle.std.specs.Prelude.{◌≡◌, ℕ, ◌+◌, ◌^◌, ◌==◌, Bool, true, false, ◌&&◌, nat_lt, nat_le, if◌then◌else◌, List, [], ◌∷◌, ◌++◌, length, Option, None, Some, Result, Ok, Err}
 use Rattle.linear_view.specs.View.{LinearView}
-use Rattle.attack_text.specs.declared.attack.Attack.{Attack}
-use Rattle.attack_text.specs.declared.attack.Derivation.{Derivation}
-use Rattle.attack_text.specs.declared.attack.Listing.{Listing}
-use Rattle.attack_text.specs.declared.attack.Listing.TheVariants.{Probes, Large}
-use Rattle.attack_text.specs.declared.attack.Probe.{Probe}
-use Rattle.attack_text.specs.declared.attack.Step.{Step}
+use Rattle.attack_model.specs.declared.attack.Attack.{Attack}
+use Rattle.attack_model.specs.declared.attack.Derivation.{Derivation}
+use Rattle.attack_model.specs.declared.attack.Listing.{Listing}
+use Rattle.attack_model.specs.declared.attack.Listing.TheVariants.{Probes, Large}
+use Rattle.attack_model.specs.declared.attack.Probe.{Probe}
+use Rattle.attack_model.specs.declared.attack.Step.{Step}
 use Rattle.attack_text.specs.declared.read.CertFault.{CertFault}
 use Rattle.attack_text.specs.declared.read.CertFault.TheVariants as fault
 use Rattle.attack_text.specs.Forms.{Counts, version_form, core_form, leak_form, steps_form, step_form, root_form, listing_form, probe_form}
-use Rattle.attack_text.specs.Ranges.{leak_of, are_uses, is_steps_count, is_step, is_probe, most_probes}
+use Rattle.attack_text.specs.Ranges.{is_steps_count, is_step, is_probe}
+use Rattle.attack_model.specs.Derivations.{are_uses}
+use Rattle.attack_model.specs.declared.attack.TheConstants.{MAX_PROBES}
+use Rattle.column_lists.specs.Rows.{named_row}
 use Rattle.text_lines.specs.Lines.{lines_of}
 
 -- what line k says: a fault where its words have another form, and where what they say is out of range
@@ -41,7 +44,7 @@ leak_in_order k (Some leak) = Ok leak
 -- which columns leak, where the words of the line `leak` name columns
 abbrev pub leak_at : LinearView → ℕ → Option (List (List ℕ)) → Result (List Bool) CertFault
 leak_at view k None = Err (fault.Syntax k)
-leak_at view k (Some columns) = leak_in_order k (leak_of view.columns columns)
+leak_at view k (Some columns) = leak_in_order k (named_row view.columns columns)
 
 -- the line `leak`
 abbrev pub leak_line : LinearView → ℕ → List (List ℕ) → Result (List Bool) CertFault
@@ -62,7 +65,7 @@ root_line n k words = said_in_range k (root_form words) (are_uses 0 n)
 -- at most so many probes are listed
 abbrev pub is_listing : Option ℕ → Bool
 is_listing None = true
-is_listing (Some t) = nat_le t most_probes
+is_listing (Some t) = nat_le t MAX_PROBES
 
 -- the line `probes`
 abbrev pub listing_line : ℕ → List (List ℕ) → Result (Option ℕ) CertFault

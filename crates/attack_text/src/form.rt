@@ -1,127 +1,13 @@
 //! The forms of the lines: of each, the words that are not settled by it.
-ghost use Rattle.std.specs.Prelude.{◌≡◌, ◌≤◌, ◌^◌, ◌==◌, ◌&&◌, true, [], ◌∷◌, None, Some, nat_lt, map, if◌then◌else◌, MatchOption, is_some};
-ghost use Rattle.std.specs.List.{list_all, slice_split};
-ghost use Rattle.std.specs.Option.{option_map};
-ghost use Rattle.std.specs.Str.{bytes_eq};
+ghost use Rattle.std.specs.Prelude.{◌≡◌, ◌==◌, ◌&&◌, true, None, Some, map, MatchOption};
+ghost use Rattle.std.specs.List.{list_all};
 ghost use Rattle.attack_text.specs.Forms as forms;
-ghost use Rattle.attack_text.specs.Parts.{fitting, IsListing};
+ghost use Rattle.attack_text.specs.Parts.{IsListing};
 ghost use Rattle.text_lines.specs.Numbers as numbers;
 
-use crate::attack::Side;
-use linear_view::{Column, ColumnKind};
-use text_lines::{Words, cut, is_number, number_value};
-
-/// A word that is a column by its form.
-#[derive(Clone, Copy)]
-pub(crate) enum Named {
-    Known(Column),
-    /// With a number that no column has.
-    Unknown,
-}
-
-pub(crate) fn is_word(word: &[u8], key: &str) -> bool
-    ensures { result ≡ bytes_eq word.now key.now }
-{
-    word == key.as_bytes()
-}
-
-fn kind_of(letter: u8) -> Option<ColumnKind>
-    ensures { result ≡ forms.kind_of letter }
-{
-    match letter {
-        b'i' => Some(ColumnKind::Input),
-        b'p' => Some(ColumnKind::Product),
-        b'f' => Some(ColumnKind::Refresh),
-        _ => None,
-    }
-}
-
-/// The number that a word spells, where it is below the bound.
-pub(crate) fn below(word: &[u8], bound: u64) -> Option<u32>
-    requires number { numbers.is_number word.now ≡ true }
-    requires bound { bound ≤ 2 ^ 32 }
-    ensures { result ≡ (if nat_lt (numbers.value_of word.now) bound then Some (numbers.value_of word.now) else None) }
-{
-    match number_value(word) {
-        Some(value) if value < bound => Some(value as u32),
-        _ => None,
-    }
-}
-
-/// The column that a word names.
-pub(crate) fn column_of(word: &[u8]) -> Option<Named>
-    ensures { result ≡ option_map fitting (forms.column_of word.now) }
-{
-    match word.split_first() {
-        Some((letter, place)) => column_of_kind(kind_of(*letter), place),
-        None => None,
-    }
-}
-
-// The column of a kind, at what stands behind the letter.
-fn column_of_kind(kind: Option<ColumnKind>, place: &[u8]) -> Option<Named>
-    ensures { result ≡ option_map fitting (forms.column_of_parts kind (slice_split (λ byte. byte == 46) place.now)) }
-{
-    match kind {
-        Some(kind) => column_at(kind, place),
-        None => None,
-    }
-}
-
-// The column whose numbers stand before and after the one dot.
-fn column_at(kind: ColumnKind, place: &[u8]) -> Option<Named>
-    ensures { result ≡ option_map fitting (forms.column_of_parts (Some kind) (slice_split (λ byte. byte == 46) place.now)) }
-{
-    match cut(place, b'.') {
-        None => None,
-        Some((number, bit)) => match cut(bit, b'.') {
-            None => column_of_parts(kind, number, bit),
-            Some(_) => None,
-        },
-    }
-}
-
-fn column_of_parts(kind: ColumnKind, number: &[u8], bit: &[u8]) -> Option<Named>
-    ensures { result ≡ option_map fitting (forms.column_of_parts (Some kind) (number.now ∷ bit.now ∷ [])) }
-{
-    if !is_number(number) || !is_number(bit) {
-        return None;
-    }
-    Some(known_column(kind, number, bit))
-}
-
-fn known_column(kind: ColumnKind, number: &[u8], bit: &[u8]) -> Named
-    requires number { numbers.is_number number.now ≡ true }
-    requires bit { numbers.is_number bit.now ≡ true }
-    ensures { result ≡ fitting (record { kind = kind; number = numbers.value_of number.now; bit = numbers.value_of bit.now }) }
-{
-    match (below(number, 1 << 32), below(bit, 1 << 32)) {
-        (Some(number), Some(bit)) => Named::Known(Column { kind, number, bit }),
-        _ => Named::Unknown,
-    }
-}
-
-fn are_columns(mut words: Words<'_>) -> bool
-    ensures { result ≡ list_all (λ word. is_some (forms.column_of word)) words.entry }
-{
-    while let Some(word) = words.next_word() {
-        if column_of(word).is_none() {
-            return false;
-        }
-    }
-    true
-}
-
-fn are_numbers(mut words: Words<'_>) -> bool
-    ensures { result ≡ list_all numbers.is_number words.entry }
-{
-    while let Some(word) = words.next_word() {
-        if !is_number(word) {
-            return false;
-        }
-    }
-    true
-}
+use attack_model::Side;
+use column_lists::are_columns;
+use text_lines::{Words, are_numbers, is_number, is_word, number_value};
 
 /// Whether the first line is that of version 2.
 pub(crate) fn version_form(mut words: Words<'_>) -> Option<bool>

@@ -2,19 +2,18 @@ ghost use Rattle.std.specs.Prelude.{◌≡◌, ◌⊎◌, ◌+◌, ◌<◌, ◌�
 ghost use Rattle.linear_view.specs.View.{LinearView, IsView};
 ghost use Rattle.attack_text.specs.AttackText.{attack_text, first_version_text};
 ghost use Rattle.attack_text.specs.Parts.{rest_of, with_every_probe, Reads};
-ghost use Rattle.attack_text.specs.Ranges.{InRange};
+ghost use Rattle.attack_model.specs.Ranges.{InRange};
 ghost use Rattle.attack_text.specs.Reading as reading;
-ghost use Rattle.attack_text.specs.declared.attack.Attack.{Attack};
-ghost use Rattle.attack_text.specs.declared.attack.Derivation.{Derivation};
-ghost use Rattle.attack_text.specs.declared.attack.Step.{Step};
+ghost use Rattle.attack_model.specs.declared.attack.Attack.{Attack};
+ghost use Rattle.attack_model.specs.declared.attack.Derivation.{Derivation};
+ghost use Rattle.attack_model.specs.declared.attack.Step.{Step};
 ghost use Rattle.attack_text.specs.declared.read.CertFault.{CertFault};
 ghost use Rattle.text_lines.specs.Lines.{first_words};
 
-use crate::attack::{Attack, Derivation, Listing, Probe, Step};
 use crate::line::{
-    MOST_PROBES, core_line, leak_line, listing_line, probe_line, root_line, step_line, steps_line,
-    version_line,
+    core_line, leak_line, listing_line, probe_line, root_line, step_line, steps_line, version_line,
 };
+use attack_model::{Attack, Derivation, Listing, MAX_PROBES, Probe, Step};
 use gf2_span::BitRow;
 use linear_view::View;
 use std::alloc::{AllocError, Global};
@@ -138,7 +137,7 @@ fn read_probes(
     count: u32,
     lines: &mut Lines<'_>,
 ) -> Result<List<Probe>, CertFault>
-    requires { count ≤ MOST_PROBES }
+    requires { count ≤ MAX_PROBES }
     ensures reads { (derivation : Derivation) → Reads result (rest_of view.now (reading.with_probes derivation count []) lines.old)
         (λ probes. rest_of view.now (reading.with_probes derivation count probes) lines.new) }
     ensures count { IfOk result (λ probes. length probes ≡ count) }

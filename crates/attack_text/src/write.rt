@@ -1,12 +1,11 @@
-ghost use Rattle.std.specs.Prelude.{◌≡◌, ◌++◌, ◌∷◌, [], map, length, codes, decimal, option_to_list};
-ghost use Rattle.linear_view.specs.RowsText.{kind_text, column_text};
+ghost use Rattle.std.specs.Prelude.{◌≡◌, ◌++◌, map, length, codes, decimal};
 ghost use Rattle.tor_edge.specs.Written.{Wrote};
 ghost use Rattle.attack_text.specs.AttackText as text;
 ghost use Rattle.text_lines.specs.Words.{line_text, spaced};
 
-use crate::attack::{Attack, Listing, Probe, Side, Step};
+use attack_model::{Attack, Listing, Probe, Side, Step};
 use gf2_span::BitRow;
-use linear_view::{Column, ColumnKind, View};
+use linear_view::{View, write_columns};
 use tor_edge::{Piece, PutFault, Sink, put_pieces, put_text};
 
 /// Writes the text of an attack on the circuit of a view, in version 2.
@@ -41,54 +40,8 @@ fn put_leak<S: Sink>(sink: &mut S, view: &View, leak: &BitRow) -> Result<(), Put
     ensures { Wrote S.faults S.written sink.old sink.new (text.leak_text view.now.columns leak.now) result }
 {
     put_text(sink, "leak")?;
-    put_columns(sink, view, leak)?;
+    write_columns(view, leak, sink)?;
     put_text(sink, "\n")
-}
-
-// The columns that leak, each after a blank.
-fn put_columns<S: Sink>(sink: &mut S, view: &View, leak: &BitRow) -> Result<(), PutFault>
-    requires { length leak.now ≡ length view.now.columns }
-    ensures { Wrote S.faults S.written sink.old sink.new (spaced (text.leak_words view.now.columns leak.now)) result }
-{
-    for c in 0..view.columns() {
-        put_leaking(sink, view.column(c), leak.has(c))?;
-    }
-    Ok(())
-}
-
-// The column after a blank, if it leaks.
-fn put_leaking<S: Sink>(sink: &mut S, column: Option<Column>, leaks: bool) -> Result<(), PutFault>
-    ensures { Wrote S.faults S.written sink.old sink.new (spaced (text.leak_words (option_to_list column) (leaks ∷ []))) result }
-{
-    match column {
-        Some(column) if leaks => put_column(sink, column),
-        _ => Ok(()),
-    }
-}
-
-fn put_column<S: Sink>(sink: &mut S, column: Column) -> Result<(), PutFault>
-    ensures { Wrote S.faults S.written sink.old sink.new (codes " " ++ column_text column) result }
-{
-    put_pieces(
-        sink,
-        &[
-            Piece::Text(" "),
-            Piece::Text(letter_of(column.kind)),
-            Piece::Number(u64::from(column.number)),
-            Piece::Text("."),
-            Piece::Number(u64::from(column.bit)),
-        ],
-    )
-}
-
-fn letter_of(kind: ColumnKind) -> &'static str
-    ensures { result.now ≡ kind_text kind }
-{
-    match kind {
-        ColumnKind::Input => "i",
-        ColumnKind::Product => "p",
-        ColumnKind::Refresh => "f",
-    }
 }
 
 // How many steps there are, and a line for each.

@@ -15,5 +15,5 @@ pub use column::{Column, ColumnKind};
 pub use core_view::{rows_of, view_of};
 pub use laws::{attacks_are_the_views, core_view_size};
 pub use operand::{Operand, Side};
-pub use text::write_rows;
+pub use text::{write_columns, write_rows};
 pub use view::{View, view_with};

@@ -17,6 +17,13 @@ pub fn write_rows<S: Sink>(view: &View, sink: &mut S) -> Result<(), PutFault>
     put_products(sink, columns, view.product_slice())
 }
 
+/// Writes those of the view's columns whose bit is set in a row, each after a blank.
+pub fn write_columns<S: Sink>(view: &View, row: &BitRow, sink: &mut S) -> Result<(), PutFault>
+    ensures { Wrote S.faults S.written sink.old sink.new (row_text view.now.columns row.now) result }
+{
+    put_row(sink, view.column_slice(), row)
+}
+
 fn put_head<S: Sink>(sink: &mut S, columns: u64) -> Result<(), PutFault>
     ensures { Wrote S.faults S.written sink.old sink.new (head_text columns) result }
 {

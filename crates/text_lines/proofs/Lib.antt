@@ -2,3 +2,4 @@ pub mod CutLemmas
 pub mod LineLemmas
 pub mod NumberLemmas
 pub mod WrittenLemmas
+pub mod SpelledLemmas

@@ -6,29 +6,19 @@ use Rattle.std.proofs.lemmas.Bool.{cases_Bool, both_ways, and_parts, and_from, n
 use Rattle.std.proofs.lemmas.Fmt.{digits_decimal, digits_value-decimal, first_decimal, decimal_nonempty, length-decimal-le}
 use Rattle.std.proofs.lemmas.List.Splits.{slice_split-cons_yes, slice_split-cons_no}
 use Rattle.std.proofs.lemmas.Str.Parse.{IsDigitsTest, IsNumeralModel, numerals_by_value}
-use Rattle.text_lines.specs.Words.{words_of, spaced, line_text}
+use Rattle.text_lines.specs.Words.{words_of, spaced, line_text, is_plain, is_plain_word, are_plain_words}
 use Rattle.text_lines.specs.Lines.{lines_of}
 use Rattle.text_lines.specs.Numbers.{is_number, value_of}
 use Rattle.text_lines.proofs.LineLemmas.{lines_of_first}
 
--- a byte that is no blank and no LF
-abbrev pub is_plain : ℕ → Bool
-is_plain byte = not (eqb byte 32) && not (eqb byte 10)
-
--- a word without blanks and LFs
-abbrev pub is_plain_word : List ℕ → Bool
-is_plain_word word = list_all is_plain word
-
--- words without blanks and LFs
-abbrev pub are_plain_words : List (List ℕ) → Bool
-are_plain_words words = list_all is_plain_word words
-
+-- a weaker test passes too
 pub list_all_weaker : {X : Type 0} (p q : X → Bool) → ((x : X) → p x ≡ true → q x ≡ true) → (xs : List X) → list_all p xs ≡ true → list_all q xs ≡ true
 list_all_weaker p q weaker [] h = refl
 list_all_weaker p q weaker (x ∷ xs) h =
     let w = and_parts (p x) (list_all p xs) h in
     and_from (q x) (list_all q xs) (weaker x w.0) (list_all_weaker p q weaker xs w.1)
 
+-- a test that passes on two lists passes on both together
 pub list_all_append : {X : Type 0} (p : X → Bool) (xs ys : List X) → list_all p xs ≡ true → list_all p ys ≡ true → list_all p (xs ++ ys) ≡ true
 list_all_append p [] ys h k = k
 list_all_append p (x ∷ xs) ys h k =
@@ -88,6 +78,7 @@ lines_of_line word words rest h =
 digits_test : IsDigitsTest (λ ds. list_all is_ascii_digit ds ≡ true)
 digits_test = search rules
 
+-- digits of numbers, by a test of each
 pub digits_model : IsNumeralModel (λ ds. list_all is_ascii_digit ds ≡ true) value_of
 digits_model = numerals_by_value (λ ds. list_all is_ascii_digit ds ≡ true) digits_test
 
@@ -126,3 +117,9 @@ plain_digit x h =
 
 pub is_plain_decimal : (n : ℕ) → n < 2 ^ 64 → is_plain_word (decimal n) ≡ true
 is_plain_decimal n h = list_all_weaker is_ascii_digit is_plain plain_digit (decimal n) (decimal_digits n h)
+
+-- the same for all the words of a line, of which there is one or more
+pub lines_of_words : (words : List (List ℕ)) (rest : List ℕ) → words ≢ [] → are_plain_words words ≡ true
+    → lines_of (line_text words ++ rest) ≡ Some words ∷ lines_of rest
+lines_of_words [] rest some h = absurd (some refl)
+lines_of_words (word ∷ words) rest some h = lines_of_line word words rest h

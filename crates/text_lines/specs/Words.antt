@@ -1,8 +1,9 @@
 -- Words, and how a line is made of them.
-use Rattle.std.specs.Prelude.{ℕ, ◌==◌, List, [], ◌∷◌, ◌++◌, codes, flat_map, Option, None, Some}
-use Rattle.std.specs.List.{slice_split}
+use Rattle.std.specs.Prelude.{ℕ, ◌==◌, Bool, not, ◌&&◌, List, [], ◌∷◌, ◌++◌, codes, flat_map, Option, None, Some}
+use Rattle.std.specs.List.{slice_split, list_all}
 
--- the words of a line: what stands between its blanks; the word between two blanks in a row, or at a blank that begins or ends the line, is empty
+-- the words of a line: what stands between its blanks; the word between two blanks in a row, or at a blank that begins or ends
+-- the line, is empty
 abbrev pub words_of : List ℕ → List (List ℕ)
 words_of line = slice_split (λ byte. byte == 32) line
 
@@ -19,3 +20,15 @@ line_text (word ∷ words) = word ++ spaced words ++ codes "\n"
 abbrev pub words_left : Option (List ℕ) → List (List ℕ)
 words_left None = []
 words_left (Some line) = words_of line
+
+-- a byte that is no blank and no LF
+abbrev pub is_plain : ℕ → Bool
+is_plain byte = not (byte == 32) && not (byte == 10)
+
+-- a word without blanks and LFs
+abbrev pub is_plain_word : List ℕ → Bool
+is_plain_word word = list_all is_plain word
+
+-- words without blanks and LFs
+abbrev pub are_plain_words : List (List ℕ) → Bool
+are_plain_words words = list_all is_plain_word words

@@ -2,13 +2,13 @@
 #![tactic(auto)]
 
 mod cutting;
+mod laws;
 mod lines;
 mod number;
-#[cfg(test)]
-mod tests;
 mod words;
 
 pub use cutting::cut;
+pub use laws::{lines_read_back, numbers_read_back};
 pub use lines::Lines;
-pub use number::{is_number, number_value};
-pub use words::Words;
+pub use number::{is_number, number_below, number_value};
+pub use words::{Words, are_numbers, is_word};

@@ -1,4 +1,4 @@
-ghost use Rattle.std.specs.Prelude.{◌≡◌, ◌<◌, ◌+◌, ◌*◌, ◌^◌, true};
+ghost use Rattle.std.specs.Prelude.{◌≡◌, ◌<◌, ◌≤◌, ◌+◌, ◌*◌, ◌^◌, true, None, Some, nat_lt, if◌then◌else◌};
 ghost use Rattle.std.specs.Char.{is_ascii_digit, digit_value};
 ghost use Rattle.std.specs.List.{list_all};
 ghost use Rattle.std.specs.Option.{SomeIff};
@@ -42,4 +42,16 @@ fn with_digit(value: u64, digit: u8) -> Option<u64>
     ensures { SomeIff result (value * 10 + digit_value digit < 2 ^ 64) (value * 10 + digit_value digit) }
 {
     value.checked_mul(10)?.checked_add(u64::from(digit - b'0'))
+}
+
+/// The number that a word spells, where it is below the bound.
+pub fn number_below(word: &[u8], bound: u64) -> Option<u32>
+    requires number { numbers.is_number word.now ≡ true }
+    requires bound { bound ≤ 2 ^ 32 }
+    ensures { result ≡ (if nat_lt (numbers.value_of word.now) bound then Some (numbers.value_of word.now) else None) }
+{
+    match number_value(word) {
+        Some(value) if value < bound => Some(value as u32),
+        _ => None,
+    }
 }

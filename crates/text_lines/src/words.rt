@@ -1,7 +1,11 @@
 ghost use Rattle.std.specs.Prelude.{◌≡◌, [], ◌∷◌, MatchOption};
+ghost use Rattle.std.specs.List.{list_all};
+ghost use Rattle.std.specs.Str.{bytes_eq};
+ghost use Rattle.text_lines.specs.Numbers as numbers;
 ghost use Rattle.text_lines.specs.Words.{words_of};
 
 use crate::cutting::cut;
+use crate::number::is_number;
 use std::marker::Model;
 
 /// The words of a line that were not taken yet. Contracts see the list of their bytes.
@@ -50,4 +54,23 @@ impl<'a> Words<'a> {
             }
         }
     }
+}
+
+/// Whether a word is this one.
+pub fn is_word(word: &[u8], wanted: &str) -> bool
+    ensures { result ≡ bytes_eq word.now wanted.now }
+{
+    word == wanted.as_bytes()
+}
+
+/// Whether all the words are numbers.
+pub fn are_numbers(mut words: Words<'_>) -> bool
+    ensures { result ≡ list_all numbers.is_number words.entry }
+{
+    while let Some(word) = words.next_word() {
+        if !is_number(word) {
+            return false;
+        }
+    }
+    true
 }

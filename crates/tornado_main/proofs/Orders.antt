@@ -5,7 +5,7 @@ use Rattle.usuba0.specs.Circuit.{Circuit}
 use Rattle.usuba0.specs.CoreText.{core_text}
 use Rattle.linear_view.specs.Rows.{core_view}
 use Rattle.linear_view.specs.RowsText.{rows_text}
-use Rattle.attack_text.specs.declared.attack.Attack.{Attack}
+use Rattle.attack_model.specs.declared.attack.Attack.{Attack}
 use Rattle.tornado_main.specs.Words.{file_of}
 use Rattle.tornado_main.specs.Source.{IsSource, IsFaulty}
 use Rattle.tornado_main.specs.Data.{SpellsAttack, IsFaultyAttack}

@@ -10,10 +10,11 @@ use Rattle.linear_view.specs.View.{LinearView, product_of, products_of}
 use Rattle.linear_view.specs.Rows.{core_products, core_view}
 use Rattle.linear_view.specs.AttackLaw.{AttacksAreTheViews}
 use Rattle.attack_text.specs.AttackText.{attack_text}
-use Rattle.attack_text.specs.declared.attack.Attack.{Attack}
-use Rattle.attack_text.specs.declared.attack.Derivation.{Derivation}
-use Rattle.attack_text.specs.declared.attack.Listing.{Listing}
-use Rattle.attack_probes.specs.Derivations.{IsInOrder, IsSound}
+use Rattle.attack_model.specs.declared.attack.Attack.{Attack}
+use Rattle.attack_model.specs.declared.attack.Derivation.{Derivation}
+use Rattle.attack_model.specs.declared.attack.Listing.{Listing}
+use Rattle.attack_model.specs.Derivations.{IsInOrder}
+use Rattle.attack_probes.specs.Derivations.{IsSound}
 use Rattle.attack_probes.specs.Unfolding.{unfolding_of}
 use Rattle.attack_probes.specs.UnfoldingLaws.{UnfoldingIsAttack}
 use Rattle.attack_probes.specs.Listings.{Lists}

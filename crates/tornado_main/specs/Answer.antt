@@ -7,7 +7,7 @@ use Rattle.usuba0.specs.CoreText.{core_text}
 use Rattle.linear_view.specs.View.{LinearView, products_of}
 use Rattle.linear_view.specs.Rows.{core_products, core_view}
 use Rattle.linear_view.specs.RowsText.{rows_text}
-use Rattle.attack_text.specs.declared.attack.Attack.{Attack}
+use Rattle.attack_model.specs.declared.attack.Attack.{Attack}
 use Rattle.attack_text.specs.AttackText.{attack_text}
 use Rattle.attack_probes.specs.Unfolding.{unfolding_of}
 use Rattle.attack_probes.specs.Listings.{Lists, Holds}

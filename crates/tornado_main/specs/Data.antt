@@ -1,7 +1,7 @@
 -- The attack that the bytes of a file spell on the circuit of a view, and their faults.
 use Rattle.std.specs.Prelude.{◌≡◌, ℕ, List, Ok, Err}
 use Rattle.linear_view.specs.View.{LinearView}
-use Rattle.attack_text.specs.declared.attack.Attack.{Attack}
+use Rattle.attack_model.specs.declared.attack.Attack.{Attack}
 use Rattle.attack_text.specs.declared.read.CertFault.TheVariants as cert
 use Rattle.attack_text.specs.Reading.{attack_of}
 use Rattle.tornado_main.specs.declared.refusal.DataFault.{DataFault}

@@ -2,7 +2,7 @@
 use Rattle.std.specs.Prelude.{◌≡◌, ◌⊎◌, ℕ, List}
 use Rattle.usuba0.specs.Circuit.{Circuit}
 use Rattle.linear_view.specs.Rows.{core_view}
-use Rattle.attack_text.specs.declared.attack.Attack.{Attack}
+use Rattle.attack_model.specs.declared.attack.Attack.{Attack}
 use Rattle.tornado_main.specs.Files.{Contents, FileIs}
 use Rattle.tornado_main.specs.Source.{IsSource}
 use Rattle.tornado_main.specs.Data.{SpellsAttack, IsFaultyAttack}

@@ -4,7 +4,7 @@ ghost use Rattle.span_model.specs.Attack.{IsLeak};
 ghost use Rattle.usuba0.specs.Circuit.{IsCore, IsSmall, HasFewColumns};
 ghost use Rattle.linear_view.specs.View.{products_of};
 ghost use Rattle.attack_text.specs.AttackText.{attack_text};
-ghost use Rattle.attack_text.specs.declared.attack.Attack.{Attack};
+ghost use Rattle.attack_model.specs.declared.attack.Attack.{Attack};
 ghost use Rattle.tornado_main.specs.Answer.{IsAttackOfLeak, IsVerdict};
 ghost use Rattle.tornado_main.specs.Ends.{Says};
 
@@ -13,7 +13,8 @@ use crate::print::line;
 use crate::status::Status;
 use attack_cert::derive;
 use attack_probes::{unfold, unfolding_is_attack};
-use attack_text::{Attack, write_attack};
+use attack_model::Attack;
+use attack_text::write_attack;
 use gf2_span::BitRow;
 use linear_view::{View, attacks_are_the_views, view_of};
 use std::alloc::{AllocError, Global};

@@ -2,7 +2,7 @@ use Rattle.std.proofs.Common.{◌≡◌, length, map, take}
 use Rattle.span_model.specs.Closure.{co_operand}
 use Rattle.span_select.specs.RowGroups.{group_sets}
 use Rattle.linear_view.specs.View.{products_of}
-use Rattle.attack_cert.specs.Taken.{levelled_steps}
+use Rattle.attack_cert.specs.Levelled.{levelled_steps}
 use Rattle.attack_cert.proofs.leak.co_operand_groups.Given as goal
 
 abbrev pub invariant-loop-step : goal.invariant-loop-step

@@ -3,7 +3,7 @@ use Rattle.std.proofs.lemmas.List.{length-map}
 use Rattle.span_model.specs.Columns.{set_of}
 use Rattle.span_model.proofs.Closing.{attack_closes}
 use Rattle.linear_view.specs.View.{products_of, product_of}
-use Rattle.attack_text.specs.declared.attack.Step.{Step}
+use Rattle.attack_model.specs.declared.attack.Step.{Step}
 use Rattle.attack_cert.proofs.Selecting.{none_is}
 use Rattle.attack_cert.proofs.Consequences.{derived_within, derived_in_order, derived_sound, derived_attack}
 use Rattle.attack_cert.proofs.leak.derive.Goals as goal

@@ -12,7 +12,7 @@ use Rattle.attack_cert.proofs.leak.numbered_steps.Goals as goal
 
 pub co_operand_groups-requires : goal.co_operand_groups-requires
 co_operand_groups-requires c =
-    subst (λ (n : ℕ). All (λ step. step.taken.product < n) c.args.listed.now) (length-map c.args.view.now.products product_of)
+    subst (λ (n : ℕ). All (λ step. step.operand.product < n) c.args.listed.now) (length-map c.args.view.now.products product_of)
     (supported (products_of c.args.view.now) (set_of c.args.leak.now) c.args.listed.now c.requires.reach).within
 
 pub reached_steps-requires-clause-supported : goal.reached_steps-requires-clause-supported

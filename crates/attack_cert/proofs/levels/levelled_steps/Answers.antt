@@ -6,12 +6,13 @@ use Rattle.span_model.specs.Span.{SameSpan}
 use Rattle.span_model.specs.Closure.{Step, co_operands}
 use Rattle.gf2_span.specs.Basis.{Basis, row_sets}
 use Rattle.linear_view.specs.View.{products_of, product_of}
+use Rattle.linear_view.specs.Sides.{step_of}
 use Rattle.attack_cert.specs.Levels.{AreThose, listed, steps_of, HasNextLevel}
-use Rattle.attack_cert.specs.Taken.{taken_step, taken_steps, IsSpanned, IsSplit}
-use Rattle.attack_cert.specs.declared.operands.Taken.{Taken}
+use Rattle.attack_cert.specs.Levelled.{operand_steps, IsSpanned, IsSplit}
+use Rattle.linear_view.specs.declared.operand.Operand.{Operand}
 use Rattle.attack_cert.specs.declared.levels.Levelled.{Levelled}
 use Rattle.attack_cert.proofs.Those.{split_length}
-use Rattle.attack_cert.proofs.Levelling.{Levelling, levelling_begins, levelling_goes_on, levelling_ends, levelling_is_stuck, taken_below, next_level}
+use Rattle.attack_cert.proofs.Levelling.{Levelling, levelling_begins, levelling_goes_on, levelling_ends, levelling_is_stuck, operands_below, next_level}
 use Rattle.attack_cert.proofs.levels.levelled_steps.Goals as goal
 
 pub levels-init : goal.levels-init
@@ -19,7 +20,7 @@ levels-init c =
     let products = products_of c.args.view.now in
     let leak = set_of c.args.leak.now in
     let pending = c.in_ok-pending.pending.items in
-    let all : taken_steps pending ≡ steps_of (length products) = c.in_ok-pending.ensures ∙ ap steps_of (sym (length-map c.args.view.now.products product_of)) in
+    let all : operand_steps pending ≡ steps_of (length products) = c.in_ok-pending.ensures ∙ ap steps_of (sym (length-map c.args.view.now.products product_of)) in
     let rows : row_sets c.in_ok-span.span ≡ [] = ap row_sets c.in_ok-span.ensures in
     record {
       columns = ap (λ (b : Basis). b.columns) c.in_ok-span.ensures ∙ c.columns.ensures.value;
@@ -46,10 +47,10 @@ returns-then-contains-clause-found c =
     found.1 c.requires.nonempty c.if-contains.ensures.answer
 
 -- the operands of steps of products
-below : (P : Step → Type 0) (m n : ℕ) (items operands : List Taken) → m ≡ n → operands ≡ items → AreThose P (steps_of m) (taken_steps items) → All (λ t. t.product < n) operands
+below : (P : Step → Type 0) (m n : ℕ) (items operands : List Operand) → m ≡ n → operands ≡ items → AreThose P (steps_of m) (operand_steps items) → All (λ t. t.product < n) operands
 below P m n items operands e same those =
     subst (λ (k : ℕ). All (λ t. t.product < k) operands) e
-    (subst (λ (ts : List Taken). All (λ t. t.product < m) ts) (sym same) (taken_below P m items those))
+    (subst (λ (ts : List Operand). All (λ t. t.product < m) ts) (sym same) (operands_below P m items those))
 
 pub next_level-requires-clause-products : goal.next_level-requires-clause-products
 next_level-requires-clause-products c =
@@ -88,9 +89,9 @@ levels-smaller c =
     let parts = split_length (IsSpanned (products_of c.args.view.now) (set_of c.args.leak.now) (row_sets c.levels.span)) split.spanned split.others in
     let P : ℕ → ℕ → ℕ → Type 0 = λ a b n. a + b ≡ n in
     let more : length level.items + length c.in_ok-level.field-0.rest.items ≡ length c.levels.pending.items
-    = subst (λ (n : ℕ). P (length level.items) (length c.in_ok-level.field-0.rest.items) n) (length-map c.levels.pending.items taken_step)
-    (subst (λ (b : ℕ). P (length level.items) b (length (taken_steps c.levels.pending.items))) (length-map c.in_ok-level.field-0.rest.items taken_step)
-    (subst (λ (a : ℕ). P a (length (taken_steps c.in_ok-level.field-0.rest.items)) (length (taken_steps c.levels.pending.items))) (length-map level.items taken_step) parts)) in
+    = subst (λ (n : ℕ). P (length level.items) (length c.in_ok-level.field-0.rest.items) n) (length-map c.levels.pending.items step_of)
+    (subst (λ (b : ℕ). P (length level.items) b (length (operand_steps c.levels.pending.items))) (length-map c.in_ok-level.field-0.rest.items step_of)
+    (subst (λ (a : ℕ). P a (length (operand_steps c.in_ok-level.field-0.rest.items)) (length (operand_steps c.levels.pending.items))) (length-map level.items step_of) parts)) in
     omega arith
 
 pub levels-preserved : goal.levels-preserved
@@ -100,15 +101,15 @@ levels-preserved c =
     let split : IsSplit products (set_of c.args.leak.now) (row_sets c.levels.span) c.levels.pending.items c.in_ok-level.field-0.level.items c.in_ok-level.field-0.rest.items
     = rw c.deref.ensures.value at c.in_ok-level.ensures in
     let level = c.in_ok-level.field-0.level.items in
-    let behind : c.list.new.steps.items ≡ c.levels.steps.items ++ map (λ (t : Taken). let s : Levelled = record { taken = t; lower = length c.levels.steps.items } in s) level
+    let behind : c.list.new.steps.items ≡ c.levels.steps.items ++ map (λ (t : Operand). let s : Levelled = record { operand = t; lower = length c.levels.steps.items } in s) level
     = rw c.deref-in-levels.ensures.value at c.in_ok-list.ensures in
-    let grown : SameSpan (row_sets c.add_co_operands.new.span) (row_sets c.levels.span ++ co_operands products (taken_steps level))
+    let grown : SameSpan (row_sets c.add_co_operands.new.span) (row_sets c.levels.span ++ co_operands products (operand_steps level))
     = rw c.deref-in-levels-2.ensures.value at c.in_ok-add_co_operands.ensures.span in
     record {
       columns = c.in_ok-add_co_operands.ensures.columns ∙ c.levels.invariant.columns;
       scratch = c.contains.ensures.scratch ∙ c.levels.invariant.scratch;
       levelling = (
-        taken_steps level ∷ found.0,
+        operand_steps level ∷ found.0,
         levelling_goes_on products (set_of c.args.leak.now) found.0 c.levels.steps.items c.list.new.steps.items c.levels.pending.items level c.in_ok-level.field-0.rest.items
             (row_sets c.levels.span) (row_sets c.add_co_operands.new.span) found.1 c.if-contains.ensures.answer split behind grown,
       );

@@ -1,8 +1,8 @@
 use Rattle.std.proofs.Common.{◌≡◌, ◌++◌, map, take}
-use Rattle.attack_cert.specs.declared.operands.Taken.{Taken}
+use Rattle.linear_view.specs.declared.operand.Operand.{Operand}
 use Rattle.attack_cert.specs.declared.levels.Levelled.{Levelled}
 use Rattle.attack_cert.proofs.levels.list.Given as goal
 
-abbrev pub invariant-loop-taken : goal.invariant-loop-taken
-invariant-loop-taken l =
-    l.steps.items ≡ l.initial.steps.items ++ map (λ (t : Taken). let s : Levelled = record { taken = t; lower = l.lower } in s) (take l.taken-index l.level)
+abbrev pub invariant-loop-operand : goal.invariant-loop-operand
+invariant-loop-operand l =
+    l.steps.items ≡ l.initial.steps.items ++ map (λ (t : Operand). let s : Levelled = record { operand = t; lower = l.lower } in s) (take l.operand-index l.level)

@@ -8,10 +8,11 @@ use Rattle.span_model.proofs.Sets.{△_cancel, △_cancel_right}
 use Rattle.span_model.proofs.Members.{in_as, in_sum, in_front}
 use Rattle.gf2_span.specs.Basis.{row_sets}
 use Rattle.linear_view.specs.View.{products_of}
-use Rattle.attack_text.specs.declared.attack.Side.TheVariants.{Left}
+use Rattle.linear_view.specs.declared.operand.Side.TheVariants.{Left}
+use Rattle.linear_view.specs.Sides.{step_of}
 use Rattle.attack_cert.specs.Levels.{AreThose, none}
-use Rattle.attack_cert.specs.Taken.{taken_step, taken_steps, IsSpanned}
-use Rattle.attack_cert.specs.declared.operands.Taken.{Taken}
+use Rattle.attack_cert.specs.Levelled.{operand_steps, IsSpanned}
+use Rattle.linear_view.specs.declared.operand.Operand.{Operand}
 use Rattle.attack_cert.proofs.Levelling.{those_more, others_more}
 use Rattle.attack_cert.proofs.levels.next_level.Goals as goal
 use Rattle.attack_cert.proofs.levels.next_level.Goals.{then-spans+in_ok-push, else-spans+in_ok-push-2}
@@ -24,65 +25,65 @@ left_of_leak : (rows known : List (Columns ℕ)) (leak left : Columns ℕ) → I
 left_of_leak rows known leak left same h =
     in_as (rows ++ known) (△_cancel leak left) (in_sum (rows ++ known) leak (leak △ left) h (in_front rows known (leak △ left) same))
 
-pub loop-taken-init : goal.loop-taken-init
-loop-taken-init c =
+pub loop-operand-init : goal.loop-operand-init
+loop-operand-init c =
     let P : Step → Type 0 = IsSpanned (products_of c.args.view.now) (set_of c.args.leak.now) (row_sets c.args.span.now) in
     record {
-      spanned = subst (λ (r : List Taken). AreThose P [] (taken_steps r)) (sym c.new-level.ensures.items) none;
-      others = subst (λ (r : List Taken). AreThose (λ step. ¬ P step) [] (taken_steps r)) (sym c.new-rest.ensures.items) none;
+      spanned = subst (λ (r : List Operand). AreThose P [] (operand_steps r)) (sym c.new-level.ensures.items) none;
+      others = subst (λ (r : List Operand). AreThose (λ step. ¬ P step) [] (operand_steps r)) (sym c.new-rest.ensures.items) none;
     }
 
-pub loop-taken-preserved : goal.loop-taken-preserved
-loop-taken-preserved c =
+pub loop-operand-preserved : goal.loop-operand-preserved
+loop-operand-preserved c =
     let P : Step → Type 0 = IsSpanned (products_of c.args.view.now) (set_of c.args.leak.now) (row_sets c.args.span.now) in
     let N : Step → Type 0 = λ step. ¬ P step in
-    let blank : Taken = record { product = 0; side = Left } in
-    let i = c.loop-taken.taken-index in
-    let t : Taken = get_or c.args.pending.now i blank in
-    let within : i < length c.args.pending.now = c.loop-taken-test.true in
+    let blank : Operand = record { product = 0; side = Left } in
+    let i = c.loop-operand.operand-index in
+    let t : Operand = get_or c.args.pending.now i blank in
+    let within : i < length c.args.pending.now = c.loop-operand-test.true in
     let is : t ≡ get_or c.args.pending.now i t = get_or_default c.args.pending.now i blank t within in
-    let rows : sets_of c.operand_rows-rows.result.now ≡ operand (products_of c.args.view.now) (taken_step t) = c.operand_rows-rows.ensures.rows in
-    let near = sets_of c.operand_rows-rows.result.now in
+    let rows : sets_of c.operand.result.now ≡ operand (products_of c.args.view.now) (step_of t) = c.operand.ensures.sets in
+    let near = sets_of c.operand.result.now in
     let known = row_sets c.args.span.now in
     let A : Type 0 = InSpan (near ++ known) (set_of c.args.leak.now) in
     let B : Type 0 = InSpan (near ++ known) (set_of c.in_ok-left.left) in
     let told : MatchBool c.in_ok-spans.spans B (¬ B) = c.in_ok-spans.ensures in
     let same : InSpan known (set_of c.args.leak.now △ set_of c.in_ok-left.left) = c.in_ok-left.ensures.same in
-    let level = c.loop-taken.level.items in
-    let rest = c.loop-taken.rest.items in
-    let upto : List Taken = take (i + 1) c.args.pending.now in
+    let level = c.loop-operand.level.items in
+    let rest = c.loop-operand.rest.items in
+    let upto : List Operand = take (i + 1) c.args.pending.now in
     elim c.if-spans.branch [
       | then-spans+in_ok-push w ↦
           let yes : A = leak_of_left near known (set_of c.args.leak.now) (set_of c.in_ok-left.left) same (subst (λ (b : Bool). MatchBool b B (¬ B)) w.if-spans.true told) in
-          let p : P (taken_step t) = subst (λ (r : List (Columns ℕ)). InSpan (r ++ row_sets c.args.span.now) (set_of c.args.leak.now)) rows yes in
-          let level_is : c.if-spans.level.items ≡ level ++ t ∷ [] = ap (λ (v : Vec Taken Global). v.items) w.level-is ∙ w.in_ok-push.ensures.items in
-          let rest_is : c.if-spans.rest.items ≡ rest = ap (λ (v : Vec Taken Global). v.items) w.rest-is in
+          let p : P (step_of t) = subst (λ (r : List (Columns ℕ)). InSpan (r ++ row_sets c.args.span.now) (set_of c.args.leak.now)) rows yes in
+          let level_is : c.if-spans.level.items ≡ level ++ t ∷ [] = ap (λ (v : Vec Operand Global). v.items) w.level-is ∙ w.in_ok-push.ensures.items in
+          let rest_is : c.if-spans.rest.items ≡ rest = ap (λ (v : Vec Operand Global). v.items) w.rest-is in
           record {
-            spanned = subst (λ (r : List Taken). AreThose P (taken_steps upto) (taken_steps r)) (sym level_is)
-                (those_more P c.args.pending.now level i t within is c.loop-taken.invariant.spanned p);
-            others = subst (λ (r : List Taken). AreThose N (taken_steps upto) (taken_steps r)) (sym rest_is)
-                (others_more N c.args.pending.now rest i t within is c.loop-taken.invariant.others (λ n. n p));
+            spanned = subst (λ (r : List Operand). AreThose P (operand_steps upto) (operand_steps r)) (sym level_is)
+                (those_more P c.args.pending.now level i t within is c.loop-operand.invariant.spanned p);
+            others = subst (λ (r : List Operand). AreThose N (operand_steps upto) (operand_steps r)) (sym rest_is)
+                (others_more N c.args.pending.now rest i t within is c.loop-operand.invariant.others (λ n. n p));
           }
       | else-spans+in_ok-push-2 w ↦
           let none_left : ¬ B = subst (λ (b : Bool). MatchBool b B (¬ B)) w.if-spans.false told in
           let no : ¬ A = λ a. none_left (left_of_leak near known (set_of c.args.leak.now) (set_of c.in_ok-left.left) same a) in
-          let n : N (taken_step t) = subst (λ (r : List (Columns ℕ)). ¬ InSpan (r ++ row_sets c.args.span.now) (set_of c.args.leak.now)) rows no in
-          let level_is : c.if-spans.level.items ≡ level = ap (λ (v : Vec Taken Global). v.items) w.level-is in
-          let rest_is : c.if-spans.rest.items ≡ rest ++ t ∷ [] = ap (λ (v : Vec Taken Global). v.items) w.rest-is ∙ w.in_ok-push-2.ensures.items in
+          let n : N (step_of t) = subst (λ (r : List (Columns ℕ)). ¬ InSpan (r ++ row_sets c.args.span.now) (set_of c.args.leak.now)) rows no in
+          let level_is : c.if-spans.level.items ≡ level = ap (λ (v : Vec Operand Global). v.items) w.level-is in
+          let rest_is : c.if-spans.rest.items ≡ rest ++ t ∷ [] = ap (λ (v : Vec Operand Global). v.items) w.rest-is ∙ w.in_ok-push-2.ensures.items in
           record {
-            spanned = subst (λ (r : List Taken). AreThose P (taken_steps upto) (taken_steps r)) (sym level_is)
-                (others_more P c.args.pending.now level i t within is c.loop-taken.invariant.spanned n);
-            others = subst (λ (r : List Taken). AreThose N (taken_steps upto) (taken_steps r)) (sym rest_is)
-                (those_more N c.args.pending.now rest i t within is c.loop-taken.invariant.others n);
+            spanned = subst (λ (r : List Operand). AreThose P (operand_steps upto) (operand_steps r)) (sym level_is)
+                (others_more P c.args.pending.now level i t within is c.loop-operand.invariant.spanned n);
+            others = subst (λ (r : List Operand). AreThose N (operand_steps upto) (operand_steps r)) (sym rest_is)
+                (those_more N c.args.pending.now rest i t within is c.loop-operand.invariant.others n);
           }
     ]
 
 pub returns : goal.returns
 returns c =
     let P : Step → Type 0 = IsSpanned (products_of c.args.view.now) (set_of c.args.leak.now) (row_sets c.args.span.now) in
-    let past : length c.args.pending.now ≤ c.loop-taken.taken-index = c.loop-taken-test.false in
-    let all : take c.loop-taken.taken-index c.args.pending.now ≡ c.args.pending.now = take_all c.loop-taken.taken-index c.args.pending.now past in
+    let past : length c.args.pending.now ≤ c.loop-operand.operand-index = c.loop-operand-test.false in
+    let all : take c.loop-operand.operand-index c.args.pending.now ≡ c.args.pending.now = take_all c.loop-operand.operand-index c.args.pending.now past in
     record {
-      spanned = subst (λ (r : List Taken). AreThose P (taken_steps r) (taken_steps c.loop-taken.level.items)) all c.loop-taken.invariant.spanned;
-      others = subst (λ (r : List Taken). AreThose (λ step. ¬ P step) (taken_steps r) (taken_steps c.loop-taken.rest.items)) all c.loop-taken.invariant.others;
+      spanned = subst (λ (r : List Operand). AreThose P (operand_steps r) (operand_steps c.loop-operand.level.items)) all c.loop-operand.invariant.spanned;
+      others = subst (λ (r : List Operand). AreThose (λ step. ¬ P step) (operand_steps r) (operand_steps c.loop-operand.rest.items)) all c.loop-operand.invariant.others;
     }

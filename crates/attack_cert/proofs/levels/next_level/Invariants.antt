@@ -3,11 +3,11 @@ use Rattle.span_model.specs.Columns.{set_of}
 use Rattle.gf2_span.specs.Basis.{row_sets}
 use Rattle.linear_view.specs.View.{products_of}
 use Rattle.attack_cert.specs.Levels.{AreThose}
-use Rattle.attack_cert.specs.Taken.{taken_steps, IsSpanned}
+use Rattle.attack_cert.specs.Levelled.{operand_steps, IsSpanned}
 use Rattle.attack_cert.proofs.levels.next_level.Given as goal
 
-abbrev pub invariant-loop-taken : goal.invariant-loop-taken
-invariant-loop-taken l = record {
-  spanned : AreThose (IsSpanned (products_of l.view) (set_of l.leak) (row_sets l.span)) (taken_steps (take l.taken-index l.pending)) (taken_steps l.level.items);
-  others : AreThose (λ step. ¬ IsSpanned (products_of l.view) (set_of l.leak) (row_sets l.span) step) (taken_steps (take l.taken-index l.pending)) (taken_steps l.rest.items);
+abbrev pub invariant-loop-operand : goal.invariant-loop-operand
+invariant-loop-operand l = record {
+  spanned : AreThose (IsSpanned (products_of l.view) (set_of l.leak) (row_sets l.span)) (operand_steps (take l.operand-index l.pending)) (operand_steps l.level.items);
+  others : AreThose (λ step. ¬ IsSpanned (products_of l.view) (set_of l.leak) (row_sets l.span) step) (operand_steps (take l.operand-index l.pending)) (operand_steps l.rest.items);
 }

@@ -1,7 +1,7 @@
 use Rattle.std.proofs.Common.{ℕ, ◌<◌, get_or}
 use Rattle.span_model.specs.Columns.{set_of}
 use Rattle.linear_view.specs.View.{products_of}
-use Rattle.attack_text.specs.declared.attack.Step.{Step}
+use Rattle.attack_model.specs.declared.attack.Step.{Step}
 use Rattle.attack_probes.specs.Derivations.{IsDerived}
 use Rattle.attack_probes.proofs.holding.derivation_holds.Given as goal
 

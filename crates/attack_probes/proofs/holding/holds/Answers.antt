@@ -5,22 +5,23 @@ use Rattle.std.proofs.lemmas.Result.{IfOk-weaker}
 use Rattle.span_model.specs.Columns.{set_of}
 use Rattle.span_model.specs.Attack.{IsLeak}
 use Rattle.linear_view.specs.View.{product_of, products_of}
-use Rattle.attack_text.specs.declared.attack.Listing.{Listing}
-use Rattle.attack_text.specs.declared.attack.Listing.TheVariants.{Large}
+use Rattle.attack_model.specs.declared.attack.Listing.{Listing}
+use Rattle.attack_model.specs.declared.attack.Listing.TheVariants.{Large}
 use Rattle.attack_probes.specs.Derivations.{IsSound}
 use Rattle.attack_probes.specs.Listings.{HoldsBy}
-use Rattle.attack_probes.proofs.Ranges.{step_products, in_order, are_probes}
+use Rattle.attack_model.specs.Ranges.{probe_of, IsListing}
 use Rattle.attack_probes.proofs.Verdicts.{on_true, holds_leak}
 use Rattle.attack_probes.proofs.holding.holds.Goals as goal
 
 pub probes_hold-requires-clause-within : goal.probes_hold-requires-clause-within
-probes_hold-requires-clause-within c = rw c.as_slice.ensures (are_probes c.args.view.now c.args.attack.now c.requires c.in-Probes.list c.in-Probes.is)
+probes_hold-requires-clause-within c =
+    rw c.as_slice.ensures (subst (IsListing c.args.view.now) c.in-Probes.is c.requires.listing).1
 
 pub derivation_holds-requires-clause-products : goal.derivation_holds-requires-clause-products
-derivation_holds-requires-clause-products c = step_products c.args.view.now c.args.attack.now c.requires
+derivation_holds-requires-clause-products c = c.requires.products
 
 pub derivation_holds-requires-clause-order : goal.derivation_holds-requires-clause-order
-derivation_holds-requires-clause-order c = in_order c.args.view.now c.args.attack.now c.requires
+derivation_holds-requires-clause-order c = c.requires.order
 
 pub returns-in-Probes-clause-answer : goal.returns-in-Probes-clause-answer
 returns-in-Probes-clause-answer c =
@@ -44,5 +45,5 @@ returns-in-Large-clause-leak c =
     (λ (answer : Bool). OnTrue answer (IsLeak products leak))
     (λ answer h. on_true (IsSound products leak derivation.steps derivation.root) (IsLeak products leak) answer
     (holds_leak products leak derivation Large (length c.args.view.now.products) (length-map c.args.view.now.products product_of)
-    (step_products c.args.view.now c.args.attack.now c.requires) (in_order c.args.view.now c.args.attack.now c.requires)) h)
+    c.requires.products c.requires.order) h)
     c.derivation_holds.ensures

@@ -4,7 +4,7 @@ use Rattle.std.proofs.lemmas.List.{length-map, get_or_read}
 use Rattle.span_model.specs.Columns.{empty, set_of}
 use Rattle.span_model.specs.Span.{InSpan}
 use Rattle.linear_view.specs.View.{product_of, products_of}
-use Rattle.attack_probes.specs.declared.holding.Operand.{Operand}
+use Rattle.linear_view.specs.declared.operand.Operand.{Operand}
 use Rattle.attack_probes.specs.Operands.{operands_at, rows_of}
 use Rattle.attack_probes.proofs.Reading.{operands_among}
 use Rattle.attack_probes.proofs.Verdicts.{told_true, told_false, share_operands, attack_spans, probes_attack}

@@ -1,17 +1,15 @@
-use Rattle.std.proofs.Common.{◌+◌, ◌<◌, ◌≤◌, List, Some, length, get_or, take, sym, ap, ◌∙◌, subst, arith}
-use Rattle.std.specs.Option.{option_copied}
+use Rattle.std.proofs.Common.{◌<◌, ◌≤◌, List, length, ◌∙◌, subst, arith}
 use Rattle.std.proofs.lemmas.List.{take_all}
 use Rattle.span_model.specs.Columns.{set_of}
 use Rattle.span_model.specs.Span.{SameSpan}
-use Rattle.gf2_span.specs.Basis.{Basis, row_sets}
+use Rattle.gf2_span.specs.Basis.{row_sets}
 use Rattle.linear_view.specs.View.{products_of}
-use Rattle.attack_text.specs.declared.attack.Side.TheVariants.{Left}
-use Rattle.attack_probes.specs.declared.holding.Operand.{Operand}
+use Rattle.linear_view.specs.declared.operand.Operand.{Operand}
+use Rattle.linear_view.specs.declared.operand.Side.TheVariants.{Left}
 use Rattle.attack_probes.specs.Operands.{rows_of}
 use Rattle.attack_probes.proofs.Spanning.{same_in}
-use Rattle.attack_probes.proofs.Reading.{read_rows, read_some, spanned_more}
+use Rattle.attack_probes.proofs.Reading.{spanned_more}
 use Rattle.attack_probes.proofs.holding.spans.Goals as goal
-use Rattle.attack_probes.proofs.holding.spans.Goals.{in-Some+in_ok-insert_rows, in_default}
 
 pub loop-operand-preserved : goal.loop-operand-preserved
 loop-operand-preserved c =
@@ -20,19 +18,13 @@ loop-operand-preserved c =
     let index = c.loop-operand.operand-index in
     let none : Operand = record { product = 0; side = Left } in
     let within : index < length operands = omega arith in
-    elim c.match-rows.branch [
-      | in-Some+in_ok-insert_rows w ↦
-          let read = read_rows view (get_or operands index none) w.as_slice.result.now c.columns-columns.ensures.view (c.requires.within index none within)
-          (ap Some w.as_slice.ensures ∙ ap option_copied (sym w.in-Some.is) ∙ c.rows.ensures) in
-          record {
-            columns = ap (λ (x : Basis). x.columns) w.span-is ∙ w.in_ok-insert_rows.ensures.columns ∙ c.loop-operand.invariant.columns;
-            spanned = subst (λ (x : Basis). SameSpan (row_sets x) (rows_of (products_of view) (take (index + 1) operands))) (sym w.span-is)
-                (spanned_more view operands index none (row_sets c.loop-operand.span) (row_sets w.insert_rows.new.span) w.as_slice.result.now within read
-                c.loop-operand.invariant.spanned w.in_ok-insert_rows.ensures.span);
-          }
-      | in_default w ↦ absurd (read_some view (get_or operands index none) (c.requires.within index none within)
-          (ap option_copied (sym w.in_default.is) ∙ c.rows.ensures))
-    ]
+    record {
+      columns = c.in_ok-insert_all.ensures.columns ∙ c.loop-operand.invariant.columns;
+      spanned =
+          spanned_more view operands index none (row_sets c.loop-operand.span) (row_sets c.insert_all.new.self) c.operand.result.now within
+          c.operand.ensures.sets
+          c.loop-operand.invariant.spanned c.in_ok-insert_all.ensures.span;
+    }
 
 pub returns : goal.returns
 returns c =

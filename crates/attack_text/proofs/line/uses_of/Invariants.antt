@@ -1,6 +1,6 @@
 use Rattle.std.proofs.Common.{◌≡◌, ◌++◌, true, length, map}
 use Rattle.std.specs.List.{list_all}
-use Rattle.attack_text.specs.Ranges.{are_uses}
+use Rattle.attack_model.specs.Derivations.{are_uses}
 use Rattle.text_lines.specs.Numbers.{is_number, value_of}
 use Rattle.attack_text.proofs.line.uses_of.Given as goal
 

@@ -1,7 +1,7 @@
 use Rattle.std.proofs.Common.{◌≡◌, ℕ, [], true, Ok, Err, Result, ap, sym, ◌∙◌, arith}
 use Rattle.attack_text.specs.Reading.{nothing, attack_of}
-use Rattle.attack_text.specs.declared.attack.Attack.{Attack}
-use Rattle.attack_text.specs.declared.attack.Derivation.{Derivation}
+use Rattle.attack_model.specs.declared.attack.Attack.{Attack}
+use Rattle.attack_model.specs.declared.attack.Derivation.{Derivation}
 use Rattle.attack_text.specs.declared.read.CertFault.{CertFault}
 use Rattle.attack_text.specs.declared.read.CertFault.TheVariants as fault
 use Rattle.text_lines.specs.Lines.{lines_of}

@@ -1,5 +1,5 @@
 use Rattle.std.proofs.Common.{◌≡◌, ◌≤◌, ◌-◌, [], length}
-use Rattle.attack_text.specs.declared.attack.Derivation.{Derivation}
+use Rattle.attack_model.specs.declared.attack.Derivation.{Derivation}
 use Rattle.attack_text.specs.Parts.{rest_of}
 use Rattle.attack_text.specs.Reading.{with_probes}
 use Rattle.attack_text.proofs.read.read_probes.Given as goal

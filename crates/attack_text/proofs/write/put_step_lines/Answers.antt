@@ -1,7 +1,7 @@
 use Rattle.std.proofs.Common.{◌+◌, ◌++◌, suc, take, drop, ap, ◌∙◌}
 use Rattle.tor_edge.proofs.Writing.{Wrote-is, Wrote-then, Wrote-stops, Wrote-ok}
 use Rattle.attack_text.specs.AttackText.{step_words, steps_text}
-use Rattle.attack_text.specs.declared.attack.Step.{Step}
+use Rattle.attack_model.specs.declared.attack.Step.{Step}
 use Rattle.attack_text.proofs.WriteLemmas.{steps_text_more, steps_text_around}
 use Rattle.text_lines.specs.Words.{line_text}
 use Rattle.attack_text.proofs.write.put_step_lines.Goals as goal

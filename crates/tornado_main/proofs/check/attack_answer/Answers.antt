@@ -2,9 +2,10 @@ use Rattle.std.proofs.Common.{◌≡◌, ◌<◌, List, ℕ, Some, All, length, 
 use Rattle.span_model.specs.Columns.{set_of}
 use Rattle.linear_view.specs.View.{products_of}
 use Rattle.attack_text.specs.AttackText.{attack_text}
-use Rattle.attack_text.specs.declared.attack.Attack.{Attack}
-use Rattle.attack_text.specs.declared.attack.Derivation.{Derivation}
-use Rattle.attack_probes.specs.Derivations.{IsInOrder, IsSound}
+use Rattle.attack_model.specs.declared.attack.Attack.{Attack}
+use Rattle.attack_model.specs.declared.attack.Derivation.{Derivation}
+use Rattle.attack_model.specs.Derivations.{IsInOrder}
+use Rattle.attack_probes.specs.Derivations.{IsSound}
 use Rattle.attack_cert.specs.Derivation.{IsDerivation}
 use Rattle.tornado_main.proofs.Verdicts.{attack_of_leak, some_so, drafted}
 use Rattle.tornado_main.proofs.check.attack_answer.Goals as goal

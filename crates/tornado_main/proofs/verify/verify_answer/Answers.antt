@@ -1,6 +1,6 @@
 use Rattle.std.proofs.Common.{◌≡◌, List, ℕ, Some, sym, subst}
 use Rattle.linear_view.specs.View.{LinearView}
-use Rattle.attack_text.specs.declared.attack.Attack.{Attack}
+use Rattle.attack_model.specs.declared.attack.Attack.{Attack}
 use Rattle.tornado_main.specs.Data.{SpellsAttack, IsFaultyAttack}
 use Rattle.tornado_main.specs.Files.{FileIs}
 use Rattle.tornado_main.specs.Answer.{IsConfirmation}

@@ -20,7 +20,7 @@ is_type_word _ = false
 
 -- whether a number is on top
 abbrev pub is_number : List Part → Bool
-is_number (part.Number x y ∷ parts) = true
+is_number (part.Number x ∷ parts) = true
 is_number _ = false
 
 -- whether an index is on top
@@ -82,11 +82,6 @@ is_links _ = false
 abbrev pub is_shifts : List Part → Bool
 is_shifts (part.Shifts x ∷ parts) = true
 is_shifts _ = false
-
--- whether what stands behind a name is on top
-abbrev pub is_suffix : List Part → Bool
-is_suffix (part.Suffix x ∷ parts) = true
-is_suffix _ = false
 
 -- whether the arguments of a refresh are on top
 abbrev pub is_refreshed : List Part → Bool

@@ -3,7 +3,13 @@
 #![tactic(auto)]
 
 mod action;
+mod declarations;
+mod expressions;
+mod indexes;
+mod items;
+mod lists;
 mod part;
+mod tokens;
 
 pub use action::{Action, act};
-pub use part::{Part, Parts, Suffix};
+pub use part::{Mark, Numeral, Part, Parts};

@@ -9,21 +9,27 @@ use usuba_trees::{
     Decl, Def, Expr, File, Grid, Index, IndexLink, Item, Link, Pick, Shape, ShiftLink, Spot, Word,
 };
 
-/// What stands behind a name in an expression.
+/// The place of a sign or a reserved word. Not `Copy`: a part that is only read is costly to prove let go.
 #[derive(Drop)]
-pub enum Suffix {
-    Call(List<Expr>),
-    Picks(List<Pick>),
+pub struct Mark {
+    pub place: Place,
+}
+
+/// A number where it stands.
+#[derive(Drop)]
+pub struct Numeral {
+    pub place: Place,
+    pub value: u64,
 }
 
 /// What a stretch of the text is.
 #[derive(Drop)]
 pub enum Part {
     /// A sign or a reserved word.
-    Mark(Place),
+    Mark(Mark),
     Word(Word),
     TypeWord(TypeWord, Place),
-    Number(Place, u64),
+    Number(Numeral),
     Index(Index),
     IndexLinks(List<IndexLink>),
     /// The bounds of a loop.
@@ -38,7 +44,6 @@ pub enum Part {
     Exprs(List<Expr>),
     Links(List<Link>),
     Shifts(List<ShiftLink>),
-    Suffix(Suffix),
     Refreshed(Expr, Index),
     Item(Item),
     Items(List<Item>),
@@ -103,13 +108,12 @@ impl Parts {
 
     pub fn pop_mark(&mut self) -> Place
         requires { IsTrue (top.is_mark self.old) }
-        ensures { self.old ≡ Part.Mark result ∷ self.new }
+        ensures { self.old ≡ Part.Mark (record { place = result }) ∷ self.new }
     {
-        let part = self.pop();
-        // A part let go of right here costs minutes to prove.
-        let place = Parts::place_of(&part);
-        drop(part);
-        place
+        match self.parts.pop() {
+            Some(Part::Mark(mark)) => mark.place,
+            _ => unreachable!(),
+        }
     }
 
     pub fn pop_word(&mut self) -> Word
@@ -132,14 +136,14 @@ impl Parts {
         }
     }
 
-    pub fn pop_number(&mut self) -> (Place, u64)
+    pub fn pop_number(&mut self) -> Numeral
         requires { IsTrue (top.is_number self.old) }
-        ensures { self.old ≡ Part.Number result.0 result.1 ∷ self.new }
+        ensures { self.old ≡ Part.Number result ∷ self.new }
     {
-        let part = self.pop();
-        let number = Parts::number_of(&part);
-        drop(part);
-        number
+        match self.parts.pop() {
+            Some(Part::Number(value)) => value,
+            _ => unreachable!(),
+        }
     }
 
     pub fn pop_index(&mut self) -> Index
@@ -262,16 +266,6 @@ impl Parts {
         }
     }
 
-    pub fn pop_suffix(&mut self) -> Suffix
-        requires { IsTrue (top.is_suffix self.old) }
-        ensures { self.old ≡ Part.Suffix result ∷ self.new }
-    {
-        match self.parts.pop() {
-            Some(Part::Suffix(value)) => value,
-            _ => unreachable!(),
-        }
-    }
-
     pub fn pop_refreshed(&mut self) -> (Expr, Index)
         requires { IsTrue (top.is_refreshed self.old) }
         ensures { self.old ≡ Part.Refreshed result.0 result.1 ∷ self.new }
@@ -378,26 +372,6 @@ impl Parts {
     {
         match self.parts.pop() {
             Some(Part::File(value)) => value,
-            _ => unreachable!(),
-        }
-    }
-
-    fn place_of(part: &Part) -> Place
-        requires { IsTrue (top.is_mark (part.now ∷ [])) }
-        ensures { part.now ≡ Part.Mark result }
-    {
-        match part {
-            Part::Mark(place) => *place,
-            _ => unreachable!(),
-        }
-    }
-
-    fn number_of(part: &Part) -> (Place, u64)
-        requires { IsTrue (top.is_number (part.now ∷ [])) }
-        ensures { part.now ≡ Part.Number result.0 result.1 }
-    {
-        match part {
-            Part::Number(place, value) => (*place, *value),
             _ => unreachable!(),
         }
     }

@@ -3,6 +3,7 @@ use Rattle.std.proofs.Common.{List, [], ◌∷◌, ◌++◌, ◌≡◌, refl, ap
 use Rattle.std.proofs.lemmas.List.{append_assoc}
 use mathlib.Core.List.{reverse-append, append-nil}
 
+-- a list in reverse, as `++` builds it from its last element on
 abbrev pub backwards : {A : Type 0} → List A → List A
 backwards [] = []
 backwards (x ∷ xs) = backwards xs ++ x ∷ []

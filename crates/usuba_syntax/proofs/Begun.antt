@@ -15,7 +15,7 @@ use Rattle.usuba_syntax.specs.Classes.{class_of, class_of_kind}
 use Rattle.usuba_syntax.specs.Files.{IsFile, BeginsFile}
 use Rattle.usuba_syntax.specs.declared.class.TheConstants as class
 use Rattle.usuba_syntax.specs.declared.table.TheConstants.{PRODUCTIONS, FRAME}
-use Rattle.usuba_syntax.specs.declared.table.rule.TheConstants as rules
+use Rattle.usuba_syntax.specs.declared.rule.TheConstants as rules
 use Rattle.usuba_syntax.proofs.Meaning.{token_is, Is, is_node, is_table, is_perm, is_returns, is_vars, is_let, is_tel, is_forall, is_refresh, is_inline, is_no_inline, is_open_round, is_close_round, is_open_square, is_close_square, is_open_curly, is_close_curly, is_comma, is_semicolon, is_colon, is_equals, is_tilde, is_ampersand, is_caret, is_bar, is_shift_left, is_shift_right, is_rotate_left, is_rotate_right, is_plus, is_minus, is_star, is_slash, is_percent, is_dots, is_in, is_type_word, is_word, is_zero, is_positive, is_too_big}
 use Rattle.usuba_syntax.proofs.NestedDepths.{all_get}
 use Rattle.usuba_syntax.proofs.Runs.{classes}

@@ -7,12 +7,12 @@ use Rattle.ll_reader.specs.declared.grammar.Item.TheVariants as due
 use Rattle.ll_reader.specs.declared.grammar.Production.{Production}
 use Rattle.ll_reader.specs.declared.grammar.Step.{Step}
 use Rattle.ll_reader.specs.declared.grammar.Step.TheVariants.{Take, Choose}
-use Rattle.usuba_parts.specs.Actions.{act, fits}
+use Rattle.usuba_parts.specs.Actions.{act, fits, or_same}
 use Rattle.usuba_parts.specs.declared.part.Part.{Part}
 use Rattle.usuba_parts.specs.declared.part.Part.TheVariants as part
 use Rattle.usuba_syntax.specs.Values.{values, part_of, action_of, HasValue, IsReady, IsDone}
 use Rattle.usuba_syntax.specs.declared.table.TheConstants.{PRODUCTIONS}
-use Rattle.usuba_syntax.specs.declared.table.rule.TheConstants as rules
+use Rattle.usuba_syntax.specs.declared.rule.TheConstants as rules
 use Rattle.usuba_tokens.specs.declared.token.Token.{Token}
 use Rattle.std.proofs.Common.{subst, length, add-zero, zero-add}
 use Rattle.usuba_syntax.proofs.Runs.{classes}
@@ -76,6 +76,7 @@ within_get (q ∷ table) zero p e = omega arith
 within_get (q ∷ table) (suc k) p e = let h = within_get table k p e in omega arith
 
 module _ (steps : List Step) (tokens : List Token) (d : Derives PRODUCTIONS (due.Rule rules.FILE ∷ []) (classes tokens) steps) where
+  -- before the first of these steps no part is made
   pub midway_at_first : IsMidway steps tokens steps tokens []
   midway_at_first = record {
     done = [];
@@ -106,6 +107,7 @@ module _ (steps : List Step) (tokens : List Token) (d : Derives PRODUCTIONS (due
       let r = rest_derives left whole before m.behind (ap classes m.all_tokens) counted in
       in_table k r.1
 
+  -- what the next step needs is there
   pub ready_next : (left : List Step) (step : Step) (before : List Token) (parts : List Part) →
       ((front behind : List Token) (t : Token) → tokens ≡ front ++ t ∷ behind → HasValue t) →
       IsMidway steps tokens (left ++ step ∷ []) before parts → IsReady step before parts
@@ -117,6 +119,7 @@ module _ (steps : List Step) (tokens : List Token) (d : Derives PRODUCTIONS (due
       let (front, last, e) = last_of x before in
       (front, last, e, valued front m.behind last (m.all_tokens ∙ ap (λ xs. xs ++ m.behind) e ∙ append_assoc front (last ∷ []) m.behind))
 
+  -- after the next step one step more is done
   pub done_next : (left : List Step) (step : Step) (before after : List Token) (parts made : List Part) →
       IsMidway steps tokens (left ++ step ∷ []) before parts → IsDone step before parts after made → IsMidway steps tokens left after made
   done_next left (Choose k) before after parts made m w = record {
@@ -125,7 +128,7 @@ module _ (steps : List Step) (tokens : List Token) (d : Derives PRODUCTIONS (due
     all_steps = m.all_steps ∙ append_assoc left (Choose k ∷ []) m.done;
     all_tokens = m.all_tokens ∙ ap (λ xs. xs ++ m.behind) (sym w.0);
     counted = sym (add-zero (takes left)) ∙ sym (takes-append left (Choose k ∷ [])) ∙ m.counted ∙ ap length (sym w.0);
-    made = w.1 ∙ ap (act (action_of k)) m.made;
+    made = sym (ap (or_same parts) w.1) ∙ ap (act (action_of k)) m.made;
   }
   done_next left Take before after parts made m w =
       let counted : takes left ≡ length after =
@@ -139,6 +142,7 @@ module _ (steps : List Step) (tokens : List Token) (d : Derives PRODUCTIONS (due
         made = w.2 ∙ ap (λ xs. part_of w.0 ∷ xs) m.made;
       }
 
+  -- when all steps are done, the one part is the file
   pub file_at_last : (before : List Token) (parts : List Part) → IsMidway steps tokens [] before parts → (f : File) × IsFile tokens f × (parts ≡ part.File f ∷ [])
   file_at_last [] parts m =
       let (f, r) = file_of_steps tokens steps d in
@@ -168,5 +172,6 @@ popped all rest before (Some y) x n m l e cases w = same_but_last rest before y 
 pub is_file_on_top : (parts : List Part) (f : File) → parts ≡ part.File f ∷ [] → IsTrue (is_file parts)
 is_file_on_top parts f e = rw e refl
 
+-- the file that is taken off is the one that the tokens are
 pub file_on_top : (tokens : List Token) (parts rest : List Part) (f g : File) → IsFile tokens f → parts ≡ part.File f ∷ [] → parts ≡ part.File g ∷ rest → IsFile tokens g
 file_on_top tokens parts rest f g x e h = let same : f ≡ g = cc in subst (IsFile tokens) same x

@@ -2,10 +2,13 @@ mod Backwards
 mod Begun
 mod Complete
 mod Coverage
+mod DeclarationRows
 mod Evaluation
+mod ExpressionRows
 mod Faults
+mod IndexRows
+mod ItemRows
 mod KnownTokens
-mod Made
 mod Meaning
 mod Nested
 mod NestedDepths

@@ -7,7 +7,6 @@ use Rattle.usuba_parts.specs.Actions.{act, fits}
 use Rattle.usuba_parts.specs.declared.action.Action.{Action}
 use Rattle.usuba_parts.specs.declared.part.Part.{Part}
 use Rattle.usuba_parts.specs.declared.part.Part.TheVariants as part
-use Rattle.usuba_parts.specs.declared.part.Suffix.TheVariants as suffix
 use Rattle.usuba_syntax.specs.Classes.{class_of, class_of_kind, class_of_keyword, class_of_sign}
 use Rattle.usuba_syntax.specs.Declarations as declarations
 use Rattle.usuba_syntax.specs.Exprs as exprs
@@ -17,7 +16,7 @@ use Rattle.usuba_syntax.specs.Items as items_of
 use Rattle.usuba_syntax.specs.Terminals as terminal
 use Rattle.usuba_syntax.specs.Values.{part_of}
 use Rattle.usuba_syntax.specs.declared.class.TheConstants as class
-use Rattle.usuba_syntax.specs.declared.table.rule.TheConstants as rules
+use Rattle.usuba_syntax.specs.declared.rule.TheConstants as rules
 use Rattle.usuba_tokens.specs.declared.token.Keyword.{Keyword}
 use Rattle.usuba_tokens.specs.declared.token.Keyword.TheVariants as keyword
 use Rattle.usuba_tokens.specs.declared.token.Sign.{Sign}
@@ -194,8 +193,8 @@ pub data Means : ℕ → List Token → Part → List Token → Type 0 where
   m_unary : {a b : List Token} {e : Expr} → exprs.IsUnary a e b → Means rules.UNARY a (part.Expr e) b
   m_complement : {a b : List Token} {e : Expr} {at : Place} → exprs.IsUnary a e b → Means rules.COMPLEMENT (terminal.sign sign.Tilde at ∷ a) (part.Expr (tree.Not at e)) b
   m_primary : {a b : List Token} {e : Expr} → exprs.IsPrimary a e b → Means rules.PRIMARY a (part.Expr e) b
-  m_call : {a b : List Token} {es : List Expr} {at end : Place} → exprs.IsExprs a es (terminal.sign sign.CloseRound end ∷ b) → Means rules.AFTER_NAME (terminal.sign sign.OpenRound at ∷ a) (part.Suffix (suffix.Call (backwards es))) b
-  m_picks_suffix : {a b : List Token} {ps : List Pick} → exprs.IsPicks a ps b → Means rules.AFTER_NAME a (part.Suffix (suffix.Picks (backwards ps))) b
+  m_call : {a b : List Token} {es : List Expr} {at end : Place} → exprs.IsExprs a es (terminal.sign sign.CloseRound end ∷ b) → Means rules.AFTER_NAME (terminal.sign sign.OpenRound at ∷ a) (part.Exprs (backwards es)) b
+  m_picks_suffix : {a b : List Token} {ps : List Pick} → exprs.IsPicks a ps b → Means rules.AFTER_NAME a (part.Picks (backwards ps)) b
   m_expr_group : {a b : List Token} {es : List Expr} {at end : Place} → exprs.IsExprs a es (terminal.sign sign.CloseRound end ∷ b) → Means rules.EXPR_GROUP (terminal.sign sign.OpenRound at ∷ a) (part.Exprs (backwards es)) b
   m_exprs : {a b : List Token} {es : List Expr} → exprs.IsExprs a es b → Means rules.EXPRS a (part.Exprs (backwards es)) b
   m_more_exprs : {a b : List Token} {es : List Expr} {comma : Place} → exprs.IsExprs a es b → Means rules.MORE_EXPRS (terminal.sign sign.Comma comma ∷ a) (part.Exprs (backwards es)) b
@@ -207,8 +206,8 @@ pub data Means : ℕ → List Token → Part → List Token → Type 0 where
   m_atom : {a b : List Token} {e : Index} → indexes.IsAtom a e b → Means rules.ATOM a (part.Index e) b
   m_index_group : {a b : List Token} {e : Index} {at end : Place} → indexes.IsIndex a e (terminal.sign sign.CloseRound end ∷ b) → Means rules.INDEX_GROUP (terminal.sign sign.OpenRound at ∷ a) (part.Index e) b
   m_name : {a : List Token} {t : Token} {w : Word} → terminal.IsName t w → Means rules.NAME (t ∷ a) (part.Word w) a
-  m_number : {a : List Token} {t : Token} {n : ℕ} → terminal.IsNumber t n → Means rules.NUMBER (t ∷ a) (part.Number t.place n) a
-  m_positive_number : {a : List Token} {t : Token} {n : ℕ} → terminal.IsNumber t n → 0 < n → Means rules.POSITIVE_NUMBER (t ∷ a) (part.Number t.place n) a
+  m_number : {a : List Token} {t : Token} {n : ℕ} → terminal.IsNumber t n → Means rules.NUMBER (t ∷ a) (part.Number (record { place = t.place; value = n })) a
+  m_positive_number : {a : List Token} {t : Token} {n : ℕ} → terminal.IsNumber t n → 0 < n → Means rules.POSITIVE_NUMBER (t ∷ a) (part.Number (record { place = t.place; value = n })) a
   m_bounds : {a b c : List Token} {i j : Index} {at comma end : Place} → indexes.IsIndex a i (terminal.sign sign.Comma comma ∷ b) → indexes.IsIndex b j (terminal.sign sign.CloseSquare end ∷ c) → Means rules.BOUNDS (terminal.sign sign.OpenSquare at ∷ a) (part.Bounds i j) c
   m_refresh_args : {a b c : List Token} {e : Expr} {i : Index} {at comma end : Place} → exprs.IsExpr a e (terminal.sign sign.Comma comma ∷ b) → indexes.IsIndex b i (terminal.sign sign.CloseRound end ∷ c) → Means rules.REFRESH_ARGS (terminal.sign sign.OpenRound at ∷ a) (part.Refreshed e i) c
 

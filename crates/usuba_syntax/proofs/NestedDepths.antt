@@ -13,7 +13,7 @@ use Rattle.ll_reader.specs.Depth.{items_at, depths, token_depths}
 use Rattle.usuba_syntax.proofs.Nests.{Opening, Bracket, Complement, behind_operand, Nest}
 use Rattle.usuba_syntax.specs.declared.class.TheConstants as class
 use Rattle.usuba_syntax.specs.declared.table.TheConstants.{PRODUCTIONS, FRAME}
-use Rattle.usuba_syntax.specs.declared.table.rule.TheConstants as rules
+use Rattle.usuba_syntax.specs.declared.rule.TheConstants as rules
 use Rattle.usuba_syntax.proofs.Nested.{role, size, role_count, role_next, class_counts, Ground, nowhere, solid, loose, Holds, over, settle, Within, is_solid, solid_stays, nowhere_empty, told}
 use Rattle.usuba_syntax.proofs.NestedTable.{may_stand, begins_behind, ends_behind, base, ground_of, sits, is_base, goes, deeper, goes_on, goes_everywhere, table_goes}
 

@@ -8,7 +8,7 @@ use Rattle.ll_reader.specs.declared.grammar.Production.{Production}
 use Rattle.ll_reader.specs.Derivation.{items}
 use Rattle.usuba_syntax.proofs.Nests.{Nest}
 use Rattle.usuba_syntax.specs.declared.table.TheConstants.{PRODUCTIONS}
-use Rattle.usuba_syntax.specs.declared.table.rule.TheConstants as rules
+use Rattle.usuba_syntax.specs.declared.rule.TheConstants as rules
 use Rattle.usuba_syntax.proofs.Nested.{role, is_among, size, role_count, role_next, Ground, nowhere, solid, loose, settle, is_solid, is_nowhere, is_fine}
 
 -- the rules of names and numbers, which stand in items and outside

@@ -8,6 +8,7 @@ use Rattle.ll_reader.specs.declared.grammar.Production.{Production}
 use Rattle.ll_reader.specs.declared.grammar.Step.{Step}
 use Rattle.ll_reader.specs.declared.grammar.Step.TheVariants.{Take, Choose}
 use Rattle.usuba_parts.specs.Actions.{act}
+use Rattle.usuba_parts.specs.declared.action.Action.{Action}
 use Rattle.usuba_parts.specs.declared.part.Part.{Part}
 use Rattle.usuba_syntax.specs.Classes.{class_of}
 use Rattle.usuba_syntax.specs.Values.{values, part_of, action_of}
@@ -24,15 +25,18 @@ pub record Runs (is : List Items.Item) (before : List Token) (ps : List Part) (a
   pub run : (later : List Items.Item) (steps : List Step) → Derives PRODUCTIONS later (classes after) steps →
       (more : List Step) × Derives PRODUCTIONS (is ++ later) (classes before) more × (values more before ≡ ps ++ values steps after)
 
+-- no items are made of no tokens
 pub run_nil : {a : List Token} → Runs [] a [] a
 run_nil = record { run = λ later steps d. (steps, d, refl) }
 
+-- a token before what the other items are made of
 pub run_token : {is : List Items.Item} {a b : List Token} {ps : List Part} (t : Token) → Runs is a ps b → Runs (due.Token (class_of t) ∷ is) (t ∷ a) (part_of t ∷ ps) b
 run_token t r = record {
   run = λ later steps d.
       let (more, e, q) = r.run later steps d in (Take ∷ more, derivation.token e, ap (λ xs. part_of t ∷ xs) q);
 }
 
+-- a text of a rule before what the other items are made of
 pub run_rule : {r : ℕ} {is : List Items.Item} {a b c : List Token} {v : Part} {ps : List Part} →
     Runs (due.Rule r ∷ []) a (v ∷ []) b → Runs is b ps c → Runs (due.Rule r ∷ is) a (v ∷ ps) c
 run_rule {is = is} {v = v} f g = record {
@@ -41,6 +45,12 @@ run_rule {is = is} {v = v} f g = record {
       let (most, e', q') = f.run (is ++ later) more e in (most, e', q' ∙ ap (λ xs. v ∷ xs) q);
 }
 
+-- a row derives a text of its rule where its action makes this part of the parts of its items
+abbrev pub Derived : Production → Action → List Token → List Part → Part → List Token → Type 0
+Derived p action a ps v b =
+    Runs (items p) a ps b → ((rest : List Part) → act action (ps ++ rest) ≡ v ∷ rest) → Runs (due.Rule p.rule ∷ []) a (v ∷ []) b
+
+-- a row by its number in the table
 pub run_by : {a b : List Token} {ps : List Part} {v : Part} (k : ℕ) (p : Production) → slice_get PRODUCTIONS k ≡ Some p →
     Runs (items p) a ps b → ((rest : List Part) → act (action_of k) (ps ++ rest) ≡ v ∷ rest) → Runs (due.Rule p.rule ∷ []) a (v ∷ []) b
 run_by k p at r made = record {

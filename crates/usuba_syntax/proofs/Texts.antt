@@ -13,7 +13,7 @@ use Rattle.usuba_syntax.specs.Files as files
 use Rattle.usuba_syntax.specs.Values.{values}
 use Rattle.usuba_syntax.specs.declared.class.TheConstants as class
 use Rattle.usuba_syntax.specs.declared.table.TheConstants.{PRODUCTIONS}
-use Rattle.usuba_syntax.specs.declared.table.rule.TheConstants as rules
+use Rattle.usuba_syntax.specs.declared.rule.TheConstants as rules
 use Rattle.usuba_tokens.specs.declared.token.Token.{Token}
 use Rattle.usuba_syntax.proofs.Meaning.{Reads, nil, rule, m_file}
 use Rattle.std.proofs.Common.{subst}

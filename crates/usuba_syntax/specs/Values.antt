@@ -3,7 +3,7 @@ use Rattle.std.specs.Prelude.{◌≡◌, ◌≢◌, ◌<◌, ℕ, ◌^◌, List,
 use Rattle.ll_reader.specs.declared.grammar.Step.{Step}
 use Rattle.ll_reader.specs.declared.grammar.Step.TheVariants.{Take, Choose}
 use Rattle.tor_edge.specs.declared.place.Place.{Place}
-use Rattle.usuba_parts.specs.Actions.{act, fits}
+use Rattle.usuba_parts.specs.Actions.{act, fits, made}
 use Rattle.usuba_parts.specs.declared.action.Action.{Action}
 use Rattle.usuba_parts.specs.declared.action.Action.TheVariants as action
 use Rattle.usuba_parts.specs.declared.part.Part.{Part}
@@ -16,13 +16,13 @@ use Rattle.usuba_trees.specs.Made.{name}
 
 -- what a token leaves in the tree; a number of 2^64 or more stands for 2^64
 abbrev pub part_of_kind : TokenKind → Place → Part
-part_of_kind (kind.Keyword k) at = part.Mark at
-part_of_kind (kind.Sign s) at = part.Mark at
+part_of_kind (kind.Keyword k) at = part.Mark (record { place = at })
+part_of_kind (kind.Sign s) at = part.Mark (record { place = at })
 part_of_kind (kind.In text) at = part.Word (name text at)
 part_of_kind (kind.Word text) at = part.Word (name text at)
 part_of_kind (kind.TypeWord word) at = part.TypeWord word at
-part_of_kind (kind.Number (Some n)) at = part.Number at n
-part_of_kind (kind.Number None) at = part.Number at (2 ^ 64)
+part_of_kind (kind.Number (Some n)) at = part.Number (record { place = at; value = n })
+part_of_kind (kind.Number None) at = part.Number (record { place = at; value = 2 ^ 64 })
 
 -- what a token leaves in the tree
 abbrev pub part_of : Token → Part
@@ -51,4 +51,4 @@ IsReady (Choose k) tokens parts = (k < length ACTIONS) × IsTrue (fits (action_o
 -- what a step does: it takes the last token, or an action is done
 abbrev pub IsDone : Step → List Token → List Part → List Token → List Part → Type 0
 IsDone Take tokens parts tokens' parts' = (t : Token) × (tokens ≡ tokens' ++ t ∷ []) × (parts' ≡ part_of t ∷ parts)
-IsDone (Choose k) tokens parts tokens' parts' = (tokens' ≡ tokens) × (parts' ≡ act (action_of k) parts)
+IsDone (Choose k) tokens parts tokens' parts' = (tokens' ≡ tokens) × (made (action_of k) parts ≡ Some parts')

@@ -93,6 +93,12 @@ pub const BROKEN: u8 = 41;
 /// The end of a file.
 pub const END: u8 = 42;
 
+/// The set of the classes of a name.
+pub const NAMES: u64 = 1 << IN | 1 << TYPE_WORD | 1 << WORD;
+
+/// The set of the classes of a number.
+pub const NUMBERS: u64 = 1 << ZERO | 1 << POSITIVE | 1 << TOO_BIG;
+
 fn class_of_keyword(keyword: Keyword) -> u8
     ensures { result ≡ classes.class_of_keyword keyword }
 {

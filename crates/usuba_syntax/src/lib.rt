@@ -4,9 +4,8 @@
 mod class;
 mod laws;
 mod read;
+mod rule;
 mod table;
-#[cfg(test)]
-mod tests;
 mod tree;
 
 pub use laws::{file_or_fault, known_cases, one_file, one_source};

@@ -8,14 +8,14 @@ ghost use Rattle.usuba_syntax.specs.Files as files;
 ghost use Rattle.usuba_syntax.specs.Values as values;
 ghost use Rattle.usuba_syntax.specs.declared.class.TheConstants as class;
 ghost use Rattle.usuba_syntax.specs.declared.table.TheConstants.{PRODUCTIONS, FRAME};
-ghost use Rattle.usuba_syntax.specs.declared.table.rule.TheConstants as rule;
+ghost use Rattle.usuba_syntax.specs.declared.rule.TheConstants as rule;
 ghost use Rattle.usuba_tokens.specs.declared.token.Token.{Token};
 
 use crate::table::ACTIONS;
 use ll_reader::Step;
 use std::alloc::{AllocError, Global};
 use tor_edge::List;
-use usuba_parts::{Part, Parts, act};
+use usuba_parts::{Mark, Numeral, Part, Parts, act};
 use usuba_tokens::{Token, TokenKind};
 use usuba_trees::{File, Word};
 
@@ -77,12 +77,12 @@ fn part_of(token: Token) -> Part
 {
     let Token { kind, place } = token;
     match kind {
-        TokenKind::Keyword(_) => Part::Mark(place),
-        TokenKind::Sign(_) => Part::Mark(place),
+        TokenKind::Keyword(_) => Part::Mark(Mark { place }),
+        TokenKind::Sign(_) => Part::Mark(Mark { place }),
         TokenKind::In(text) => Part::Word(Word { text, place }),
         TokenKind::Word(text) => Part::Word(Word { text, place }),
         TokenKind::TypeWord(word) => Part::TypeWord(word, place),
-        TokenKind::Number(Some(value)) => Part::Number(place, value),
+        TokenKind::Number(Some(value)) => Part::Number(Numeral { place, value }),
         TokenKind::Number(None) => unreachable!(),
     }
 }

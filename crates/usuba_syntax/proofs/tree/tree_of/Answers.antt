@@ -8,7 +8,7 @@ use Rattle.usuba_syntax.proofs.Runs.{classes}
 use Rattle.usuba_syntax.proofs.Texts.{file_of_text}
 use Rattle.usuba_syntax.proofs.tree.tree_of.Goals as goal
 use Rattle.usuba_syntax.specs.declared.table.TheConstants.{PRODUCTIONS}
-use Rattle.usuba_syntax.specs.declared.table.rule.TheConstants as rule
+use Rattle.usuba_syntax.specs.declared.rule.TheConstants as rule
 
 -- the last step takes the end, and those before it derive the tokens
 pub file_of-requires-clause-derives : goal.file_of-requires-clause-derives

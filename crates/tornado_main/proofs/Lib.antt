@@ -1,6 +1,7 @@
-pub mod SourceLemmas
-pub mod Fetched
-pub mod Orders
-pub mod Ending
-pub mod Verdicts
-pub mod Telling
+pub mod MessageLemmas
+pub mod StepLemmas
+pub mod EndingLemmas
+pub mod CoverageLemmas
+pub mod RefusedLemmas
+pub mod RunLemmas
+pub mod VerdictLemmas

@@ -28,9 +28,9 @@ order_of (command ∷ file ∷ []) = order_on_file command file
 order_of (command ∷ file ∷ attack ∷ []) = order_on_files command file attack
 order_of _ = None
 
--- the name of an order's source
-abbrev pub file_of : Order → List ℕ
-file_of (order.Core file) = file
-file_of (order.Rows file) = file
-file_of (order.Check file) = file
-file_of (order.Verify file attack) = file
+-- the files that an order names, in the order in which they are fetched
+abbrev pub files_of : Order → List (List ℕ)
+files_of (order.Core file) = file ∷ []
+files_of (order.Rows file) = file ∷ []
+files_of (order.Check file) = file ∷ []
+files_of (order.Verify file attack) = file ∷ attack ∷ []

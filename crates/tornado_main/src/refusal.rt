@@ -1,35 +1,25 @@
 ghost use Rattle.std.specs.Prelude.{◌≡◌};
-ghost use Rattle.tornado_main.specs.Message.{status_of};
-ghost use Rattle.tornado_main.specs.declared.refusal.Refusal.TheVariants.{Memory};
+ghost use Rattle.tornado_main.specs.Message.{complaint_of};
+ghost use Rattle.tornado_main.specs.Refusals.{status_of, message_of};
+ghost use Rattle.tor_edge.specs.Written.{Wrote};
+ghost use Rattle.tornado_main.specs.Run.{Sent};
+ghost use Rattle.tornado_main.specs.declared.refusal.Refusal.TheVariants.{Memory, Unwritten};
 
+use crate::message::{Complaint, Fault, Spot, write_complaint, write_fault};
 use crate::status::Status;
 use std::alloc::AllocError;
-use tor_edge::{Place, Reason};
-
-/// Why a file gives no circuit.
-#[derive(Debug, Clone, Copy, PartialEq, Eq, Drop)]
-pub enum SourceFault {
-    Syntax(Place),
-    TooDeep(Place),
-    NumberTooBig(Place),
-    NotBuilt,
-}
-
-/// Why a file holds no attack on a circuit, with the number of the line at fault.
-#[derive(Debug, Clone, Copy, PartialEq, Eq, Drop)]
-pub enum DataFault {
-    Syntax(u64),
-    OutOfRange(u64),
-    OtherCore(u64),
-}
+use tor_edge::{PutFault, Reason, Sink};
 
 /// Why an order ends without its whole answer. A file's name stands beside what is wrong with it.
 #[derive(Debug, Clone, Copy)]
 pub enum Refusal<'a> {
-    Source(&'a str, SourceFault),
-    Data(&'a str, DataFault),
+    /// The file has a fault, for which the run ends with this status.
+    Faulty(Status, &'a str, Fault),
+    /// The fetch of the file was refused.
     Unread(&'a str, Reason),
+    /// The output failed.
     Unwritten,
+    /// Memory was wanting.
     Memory,
 }
 
@@ -41,17 +31,57 @@ impl From<AllocError> for Refusal<'_> {
     }
 }
 
+impl From<PutFault> for Refusal<'_> {
+    ghost from_gives = { λ _ refusal. refusal ≡ Unwritten };
+
+    fn from(_fault: PutFault) -> Self {
+        Refusal::Unwritten
+    }
+}
+
 impl Refusal<'_> {
-    /// The status with which a run ends that is refused so.
-    pub fn status(self) -> Status
+    fn status(self) -> Status
         ensures { result ≡ status_of self.entry }
     {
         match self {
-            Refusal::Source(_, _) => Status::Source,
-            Refusal::Data(_, _) => Status::Values,
+            Refusal::Faulty(status, _, _) => status,
             Refusal::Unread(_, _) => Status::Unread,
             Refusal::Unwritten => Status::Unwritten,
             Refusal::Memory => Status::Memory,
         }
+    }
+
+    fn write<S: Sink>(self, sink: &mut S) -> Result<(), PutFault>
+        ensures { Wrote S.faults S.written sink.old sink.new (message_of self.entry) result }
+    {
+        match self {
+            Refusal::Faulty(_, name, fault) => write_fault(name, fault, sink),
+            Refusal::Unread(name, why) => write_fault(name, unread_fault(why), sink),
+            Refusal::Unwritten => write_complaint(Complaint::CannotWrite, sink),
+            Refusal::Memory => write_complaint(Complaint::OutOfMemory, sink),
+        }
+    }
+
+    /// Tells the refusal in its one line, and answers the status with which the run then ends. A fault of the sink changes no status.
+    pub fn tell<S: Sink>(self, sink: &mut S) -> Status
+        ensures status { result ≡ status_of self.entry }
+        ensures told { Sent S.faults S.written sink.old sink.new (message_of self.entry) }
+    {
+        let _ = self.write(sink);
+        self.status()
+    }
+}
+
+// What is wrong with a file whose fetch was refused.
+fn unread_fault(why: Reason) -> Fault
+    ensures { result ≡ record { at = Spot.Whole; what = complaint_of why } }
+{
+    let what = match why {
+        Reason::Failed => Complaint::CannotRead,
+        Reason::TooLong => Complaint::TooLong,
+    };
+    Fault {
+        at: Spot::Whole,
+        what,
     }
 }

@@ -1,6 +1,6 @@
 ghost use Rattle.std.specs.Prelude.{◌≡◌, ◌↔◌, None, Some, map, string_bytes, IfOk, IsErrOf};
 ghost use Rattle.tornado_main.specs.declared.words.WordFault.TheVariants.{Memory};
-ghost use Rattle.tornado_main.specs.Words.{is_file_name, order_on_file, order_on_files, order_of, file_of};
+ghost use Rattle.tornado_main.specs.Words.{is_file_name, order_on_file, order_on_files, order_of};
 
 use std::alloc::{AllocError, Global};
 use tor_edge::Name;
@@ -30,20 +30,6 @@ impl From<AllocError> for WordFault {
 
     fn from(error: AllocError) -> WordFault {
         WordFault::Memory(error)
-    }
-}
-
-impl Order {
-    /// The name of the source.
-    pub fn file(&self) -> &str
-        ensures { result.now ≡ file_of self.now }
-    {
-        match self {
-            Order::Core { file }
-            | Order::Rows { file }
-            | Order::Check { file }
-            | Order::Verify { file, .. } => file.as_str(),
-        }
     }
 }
 

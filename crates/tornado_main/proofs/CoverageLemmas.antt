@@ -1,0 +1,146 @@
+-- What outcomes the steps of an order leave.
+use Rattle.std.proofs.Common.{◌≡◌, ◌⊎◌, inl, inr, List, ℕ, Option, Some, Ok, Err, refl, sym, ◌∙◌, ap, subst}
+use Rattle.span_model.specs.Attack.{HasAttack}
+use Rattle.usuba_trees.specs.declared.File.{File}
+use Rattle.usuba_syntax.specs.Sources.{SpellsFile, HasFault}
+use Rattle.usuba_syntax.specs.SourceFaults.{SourceFault}
+use Rattle.usuba_syntax.specs.SourceFaults as read
+use Rattle.usuba0.specs.Circuit.{Circuit}
+use Rattle.usuba0.specs.CoreText.{core_text}
+use Rattle.flatten.specs.SourceCore.{core_of_source}
+use Rattle.flatten.specs.Thin.{IsThin}
+use Rattle.linear_view.specs.AttackLaw.{named}
+use Rattle.linear_view.specs.Rows.{core_products, core_view}
+use Rattle.linear_view.specs.RowsText.{rows_text}
+use Rattle.linear_view.specs.View.{LinearView}
+use Rattle.attack_model.specs.declared.attack.Attack.{Attack}
+use Rattle.attack_text.specs.declared.read.CertFault.TheVariants as cert
+use Rattle.attack_probes.specs.Unfolding.{unfolding_of}
+use Rattle.tornado_main.specs.Coverage.{HasStatus, FitsOutcome}
+use Rattle.tornado_main.specs.Files.{Contents, IsFetched}
+use Rattle.tornado_main.specs.Outcome.{Outcome, answers}
+use Rattle.tornado_main.specs.Orders.{OrderEnds}
+use Rattle.tornado_main.specs.Source.{IsSource, IsFaultySource, syntax, too_deep, number_too_big, not_built}
+use Rattle.tornado_main.specs.Steps.{AfterFile, not_read, faulty, goes_on}
+use Rattle.tornado_main.specs.commands.Check.{IsVerdict, IsAttackOfLeak, secure, found}
+use Rattle.tornado_main.specs.commands.Verify.{IsConfirmation, SpellsAttack, IsFaultyAttack, holds, fails, out_of_range, other_core}
+use Rattle.tornado_main.specs.commands.Verify as verify
+use Rattle.tornado_main.specs.declared.message.Fault.{Fault}
+use Rattle.tornado_main.specs.declared.status.Status.{Status}
+use Rattle.tornado_main.specs.declared.status.Status.TheVariants as exit
+use Rattle.tornado_main.specs.declared.words.Order.{Order}
+use Rattle.tornado_main.specs.declared.words.Order.TheVariants as order
+
+-- what goes on from a file fits where the rest does
+after_fits : {A : Type 0} (contents : Contents) (name : List ℕ) (at_fault : Status) (Holds : A → List ℕ → Type 0) (IsFaulty : Fault → List ℕ → Type 0)
+    (Next : A → Outcome → Type 0) → (at_fault ≡ exit.Source) ⊎ (at_fault ≡ exit.Values) → ((held : A) (end : Outcome) → Next held end → FitsOutcome end)
+    → (end : Outcome) → AfterFile contents name at_fault Holds IsFaulty Next end → FitsOutcome end
+after_fits contents name at_fault Holds IsFaulty Next is fits _ (not_read why may) = tt
+after_fits contents name at_fault Holds IsFaulty Next is fits _ (faulty bytes fault fetched has) = is
+after_fits contents name at_fault Holds IsFaulty Next is fits end (goes_on bytes held _ fetched has next) = fits held end next
+
+-- an answer with the status 0
+done_fits : (text : List ℕ) (end : Outcome) → end ≡ answers text exit.Done → FitsOutcome end
+done_fits text end is = subst FitsOutcome (sym is) (inl refl)
+
+verdict_fits : (core : Circuit) (end : Outcome) → IsVerdict core end → FitsOutcome end
+verdict_fits core _ (secure none) = inl refl
+verdict_fits core _ (found attack is) = inr refl
+
+confirmation_fits : (core : Circuit) (attack : Attack) (end : Outcome) → IsConfirmation core attack end → FitsOutcome end
+confirmation_fits core attack _ (holds does leaks) = inl refl
+confirmation_fits core attack _ (fails not) = inr refl
+
+-- every outcome of an order has a status of its kind
+pub order_fits : (contents : Contents) (o : Order) (end : Outcome) → OrderEnds contents o end → FitsOutcome end
+order_fits contents (order.Core file) = after_fits contents file exit.Source _ _ _ (inl refl) (λ core end. done_fits _ end)
+order_fits contents (order.Rows file) = after_fits contents file exit.Source _ _ _ (inl refl) (λ core end. done_fits _ end)
+order_fits contents (order.Check file) = after_fits contents file exit.Source _ _ _ (inl refl) verdict_fits
+order_fits contents (order.Verify file attack) =
+    after_fits contents file exit.Source _ _ _ (inl refl) (λ core. after_fits contents attack exit.Values _ _ _ (inr refl) (confirmation_fits core))
+
+-- where the contents are told, two fetches of a name answer the same bytes
+same_bytes : (file : List ℕ → Option (List ℕ)) (name a b : List ℕ) → IsFetched (Some file) name a → IsFetched (Some file) name b → a ≡ b
+same_bytes file name a b x y =
+    let p : file name ≡ Some a = x.told in
+    let q : file name ≡ Some b = y.told in
+    cc
+
+-- all outcomes of a kind that are no refused fetches have one status
+abbrev pub HaveOneStatus : (Outcome → Type 0) → Type 0
+HaveOneStatus May = (end other : Outcome) (status another : Status) → May end → May other → HasStatus status end → HasStatus another other → status ≡ another
+
+-- what goes on from a told file has one status where the rest does
+after_one : {A : Type 0} (file : List ℕ → Option (List ℕ)) (name : List ℕ) (at_fault : Status) (Holds : A → List ℕ → Type 0) (IsFaulty : Fault → List ℕ → Type 0)
+    (Next : A → Outcome → Type 0) → ((bytes : List ℕ) (a b : A) → Holds a bytes → Holds b bytes → a ≡ b)
+    → ((bytes : List ℕ) (a : A) (fault : Fault) → Holds a bytes → ¬ IsFaulty fault bytes) → ((a : A) → HaveOneStatus (Next a))
+    → HaveOneStatus (AfterFile (Some file) name at_fault Holds IsFaulty Next)
+after_one {A = A} file name at_fault Holds IsFaulty Next one apart next _ other s t (not_read why may) y hs ht = absurd hs
+after_one {A = A} file name at_fault Holds IsFaulty Next one apart next _ _ s t (faulty b f x h) (not_read why may) hs ht = absurd ht
+after_one {A = A} file name at_fault Holds IsFaulty Next one apart next _ _ s t (faulty b f x h) (faulty b' f' x' h') hs ht = sym hs ∙ ht
+after_one {A = A} file name at_fault Holds IsFaulty Next one apart next _ other s t (faulty b f x h) (goes_on b' a _ x' h' n) hs ht =
+    absurd (apart b' a f h' (subst (λ (k : List ℕ). IsFaulty f k) (same_bytes file name b b' x x') h))
+after_one {A = A} file name at_fault Holds IsFaulty Next one apart next end _ s t (goes_on b a _ x h n) (not_read why may) hs ht = absurd ht
+after_one {A = A} file name at_fault Holds IsFaulty Next one apart next end _ s t (goes_on b a _ x h n) (faulty b' f x' h') hs ht =
+    absurd (apart b' a f (subst (λ (k : List ℕ). Holds a k) (same_bytes file name b b' x x') h) h')
+after_one {A = A} file name at_fault Holds IsFaulty Next one apart next end other s t (goes_on b a _ x h n) (goes_on b' a' _ x' h' n') hs ht =
+    let same : a ≡ a' = one b' a a' (subst (λ (k : List ℕ). Holds a k) (same_bytes file name b b' x x') h) h' in
+    next a' end other s t (subst (λ (k : A). Next k end) same n) n' hs ht
+
+-- one answer has one status
+done_one : (text : List ℕ) → HaveOneStatus (λ end. end ≡ answers text exit.Done)
+done_one text end other s t x y hs ht =
+    let p : exit.Done ≡ s = subst (λ (e : Outcome). HasStatus s e) x hs in
+    let q : exit.Done ≡ t = subst (λ (e : Outcome). HasStatus t e) y ht in
+    sym p ∙ q
+
+-- the attack of a leak is an attack
+has_attack : (core : Circuit) (attack : Attack) → IsAttackOfLeak core attack → HasAttack (core_products core)
+has_attack core attack is =
+    (named core attack.derivation.leak, (is.is_attack.0, unfolding_of attack.derivation.steps attack.derivation.root, is.is_attack.1))
+
+verdict_one : (core : Circuit) → HaveOneStatus (IsVerdict core)
+verdict_one core _ _ s t (secure none) (secure none') hs ht = sym hs ∙ ht
+verdict_one core _ _ s t (secure none) (found attack is) hs ht = absurd (none (has_attack core attack is))
+verdict_one core _ _ s t (found attack is) (secure none) hs ht = absurd (none (has_attack core attack is))
+verdict_one core _ _ s t (found attack is) (found attack' is') hs ht = sym hs ∙ ht
+
+confirmation_one : (core : Circuit) (attack : Attack) → HaveOneStatus (IsConfirmation core attack)
+confirmation_one core attack _ _ s t (holds does leaks) (holds does' leaks') hs ht = sym hs ∙ ht
+confirmation_one core attack _ _ s t (holds does leaks) (fails not) hs ht = absurd (not does)
+confirmation_one core attack _ _ s t (fails not) (holds does leaks) hs ht = absurd (not does)
+confirmation_one core attack _ _ s t (fails not) (fails not') hs ht = sym hs ∙ ht
+
+-- a text spells one attack, and none where it has a fault
+attack_one : (view : LinearView) (bytes : List ℕ) (a b : Attack) → SpellsAttack view a bytes → SpellsAttack view b bytes → a ≡ b
+attack_one view bytes a b x y = let here : Ok a ≡ Ok b = sym x ∙ y in cc
+
+attack_apart : (view : LinearView) (bytes : List ℕ) (a : Attack) (fault : Fault) → SpellsAttack view a bytes → ¬ IsFaultyAttack view fault bytes
+attack_apart view bytes a _ x (verify.syntax _ line h) = let here : Ok a ≡ Err (cert.Syntax line) = sym x ∙ h in absurd (cc)
+attack_apart view bytes a _ x (out_of_range _ line h) = let here : Ok a ≡ Err (cert.OutOfRange line) = sym x ∙ h in absurd (cc)
+attack_apart view bytes a _ x (other_core _ line h) = let here : Ok a ≡ Err (cert.OtherCore line) = sym x ∙ h in absurd (cc)
+
+module _ (one_file : (bytes : List ℕ) (first second : File) → SpellsFile bytes first → SpellsFile bytes second → first ≡ second)
+    (no_fault : (bytes : List ℕ) (file : File) (fault : SourceFault) → SpellsFile bytes file → ¬ HasFault bytes fault) where
+  -- a source has one core, and none where it has a fault
+  source_one : (bytes : List ℕ) (a b : Circuit) → IsSource a bytes → IsSource b bytes → a ≡ b
+  source_one bytes a b x y =
+      let same : x.file ≡ y.file = one_file bytes x.file y.file x.spelled y.spelled in
+      let here : Some a ≡ Some b = sym x.core_of_file ∙ ap core_of_source same ∙ y.core_of_file in
+      cc
+
+  source_apart : (bytes : List ℕ) (a : Circuit) (fault : Fault) → IsSource a bytes → ¬ IsFaultySource fault bytes
+  source_apart bytes a _ x (syntax _ at h) = no_fault bytes x.file (read.Syntax at) x.spelled h
+  source_apart bytes a _ x (too_deep _ at h) = no_fault bytes x.file (read.TooDeep at) x.spelled h
+  source_apart bytes a _ x (number_too_big _ at h) = no_fault bytes x.file (read.NumberTooBig at) x.spelled h
+  source_apart bytes a _ x (not_built _ file spelled not_thin) =
+      not_thin (subst IsThin (one_file bytes x.file file x.spelled spelled) x.thin)
+
+  -- all outcomes of an order but refused fetches have one status
+  pub order_one : (file : List ℕ → Option (List ℕ)) (o : Order) → HaveOneStatus (OrderEnds (Some file) o)
+  order_one file (order.Core name) = after_one file name exit.Source _ _ _ source_one source_apart (λ core. done_one (core_text core))
+  order_one file (order.Rows name) = after_one file name exit.Source _ _ _ source_one source_apart (λ core. done_one (rows_text (core_view core)))
+  order_one file (order.Check name) = after_one file name exit.Source _ _ _ source_one source_apart verdict_one
+  order_one file (order.Verify name attack) =
+      after_one file name exit.Source _ _ _ source_one source_apart
+      (λ core. after_one file attack exit.Values _ _ _ (attack_one (core_view core)) (attack_apart (core_view core)) (confirmation_one core))

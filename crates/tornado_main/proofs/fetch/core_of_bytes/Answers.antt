@@ -1,0 +1,34 @@
+use Rattle.std.proofs.Common.{Err, refl, ◌∙◌, ap}
+use Rattle.usuba_syntax.specs.declared.read.ReadFault.TheVariants as read
+use Rattle.usuba_syntax.specs.SourceFaults as source
+use Rattle.tornado_main.specs.Source.{IsFaultySource, syntax, too_deep, number_too_big, not_built}
+use Rattle.tornado_main.specs.declared.message.Complaint.TheVariants as complaint
+use Rattle.tornado_main.specs.declared.status.Status.TheVariants.{Source}
+use Rattle.tornado_main.proofs.RefusedLemmas.{refused_for, has_fault, at_place}
+use Rattle.tornado_main.proofs.fetch.core_of_bytes.Goals as goal
+
+pub returns-in-Err-Syntax-clause-refused : goal.returns-in-Err-Syntax-clause-refused
+returns-in-Err-Syntax-clause-refused c =
+    refused_for Source c.args.name.now (λ f. IsFaultySource f c.args.bytes.now) _ _ c.faulty.ensures refl
+    (at_place complaint.Syntax c.args.bytes.now _ _ c.in-Err-Syntax.at-is
+    (syntax c.args.bytes.now c.in-Err-Syntax.at
+    (has_fault _ _ (read.Syntax c.in-Err-Syntax.at) (source.Syntax c.in-Err-Syntax.at) (c.in-Err-Syntax.is ∙ ap Err c.in-Err-Syntax.field-0-is) refl c.read_file.ensures.fault)))
+
+pub returns-in-Err-TooDeep-clause-refused : goal.returns-in-Err-TooDeep-clause-refused
+returns-in-Err-TooDeep-clause-refused c =
+    refused_for Source c.args.name.now (λ f. IsFaultySource f c.args.bytes.now) _ _ c.faulty-in-Err-TooDeep.ensures refl
+    (at_place complaint.TooDeep c.args.bytes.now _ _ c.in-Err-TooDeep.at-is
+    (too_deep c.args.bytes.now c.in-Err-TooDeep.at
+    (has_fault _ _ (read.TooDeep c.in-Err-TooDeep.at) (source.TooDeep c.in-Err-TooDeep.at) (c.in-Err-TooDeep.is ∙ ap Err c.in-Err-TooDeep.field-0-is) refl c.read_file.ensures.fault)))
+
+pub returns-in-Err-NumberTooBig-clause-refused : goal.returns-in-Err-NumberTooBig-clause-refused
+returns-in-Err-NumberTooBig-clause-refused c =
+    refused_for Source c.args.name.now (λ f. IsFaultySource f c.args.bytes.now) _ _ c.faulty-in-Err-NumberTooBig.ensures refl
+    (at_place complaint.NumberTooBig c.args.bytes.now _ _ c.in-Err-NumberTooBig.at-is
+    (number_too_big c.args.bytes.now c.in-Err-NumberTooBig.at
+    (has_fault _ _ (read.NumberTooBig c.in-Err-NumberTooBig.at) (source.NumberTooBig c.in-Err-NumberTooBig.at) (c.in-Err-NumberTooBig.is ∙ ap Err c.in-Err-NumberTooBig.field-0-is) refl c.read_file.ensures.fault)))
+
+pub returns-in-Err-NotBuilt-clause-refused : goal.returns-in-Err-NotBuilt-clause-refused
+returns-in-Err-NotBuilt-clause-refused c =
+    refused_for Source c.args.name.now (λ f. IsFaultySource f c.args.bytes.now) _ _ c.faulty-in-Err-NotBuilt.ensures refl
+    (not_built c.args.bytes.now c.in-Ok.file c.in-Ok.ensures.file (c.core_of.ensures.refused (c.in-Err-NotBuilt.is ∙ ap Err c.in-Err-NotBuilt.field-0-is)))

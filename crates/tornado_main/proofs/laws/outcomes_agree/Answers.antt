@@ -1,0 +1,8 @@
+use Rattle.tornado_main.proofs.CoverageLemmas.{order_one, order_fits}
+use Rattle.tornado_main.proofs.laws.outcomes_agree.Goals as goal
+
+pub returns : goal.returns
+returns c = record {
+  one_status = order_one c.one_source.ensures.file c.one_source.ensures.apart;
+  statuses = order_fits;
+}

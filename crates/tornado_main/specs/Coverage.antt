@@ -1,0 +1,28 @@
+-- What the outcomes of an order have in common.
+use Rattle.std.specs.Prelude.{◌≡◌, ◌⊎◌, ℕ, List, Option, Some}
+use Rattle.tornado_main.specs.Files.{Contents}
+use Rattle.tornado_main.specs.Orders.{OrderEnds}
+use Rattle.tornado_main.specs.Outcome.{Outcome, answers, refused, unread}
+use Rattle.tornado_main.specs.declared.status.Status.{Status}
+use Rattle.tornado_main.specs.declared.status.Status.TheVariants.{Done, Found, Source, Values}
+use Rattle.tornado_main.specs.declared.words.Order.{Order}
+
+-- the outcome is an answer with this status or a refusal of a file with it, and no refused fetch
+abbrev pub HasStatus : Status → Outcome → Type 0
+HasStatus s (answers text status) = status ≡ s
+HasStatus s (refused status name fault) = status ≡ s
+HasStatus s (unread name why) = ⊥
+
+-- the status is one of an answer, or one of a refused file
+abbrev pub FitsOutcome : Outcome → Type 0
+FitsOutcome (answers text status) = (status ≡ Done) ⊎ (status ≡ Found)
+FitsOutcome (refused status name fault) = (status ≡ Source) ⊎ (status ≡ Values)
+FitsOutcome (unread name why) = Unit {0}
+
+-- over told files the contents decide the status
+pub record OutcomesAgree : Type 0 where
+  -- all outcomes of an order but refused fetches have one status
+  pub one_status : (file : List ℕ → Option (List ℕ)) (order : Order) (end other : Outcome) (status another : Status)
+      → OrderEnds (Some file) order end → OrderEnds (Some file) order other → HasStatus status end → HasStatus another other → status ≡ another
+  -- answers have the status 0 or 1, and refusals of files 3 or 7
+  pub statuses : (contents : Contents) (order : Order) (end : Outcome) → OrderEnds contents order end → FitsOutcome end

@@ -1,0 +1,5 @@
+-- How each command may end, a command a file.
+pub mod Core
+pub mod Rows
+pub mod Check
+pub mod Verify

@@ -1,0 +1,36 @@
+//! The commands, each in a file of its own.
+
+ghost use Rattle.tornado_main.specs.Ending.{Ends};
+ghost use Rattle.tornado_main.specs.Orders.{OrderEnds};
+ghost use Rattle.tornado_main.specs.Words.{files_of};
+
+mod check;
+mod print_core;
+mod print_rows;
+mod verify;
+
+use crate::refusal::Refusal;
+use crate::status::Status;
+use crate::words::Order;
+use std::alloc::Global;
+use tor_edge::{Files, Sink};
+
+/// Carries out an order: all of its work is done before the first byte of its answer is written.
+pub fn carry_out<'a, F: Files, O: Sink>(
+    alloc: Global,
+    order: &'a Order,
+    files: &mut F,
+    out: &mut O,
+) -> Result<Status, Refusal<'a>>
+    ensures { Ends F.faults F.too_long F.refused F.fetched F.contents O.faults O.written (files_of order.now) (OrderEnds (F.contents files.old) order.now)
+        files.old files.new out.old out.new result }
+{
+    match order {
+        Order::Core { file } => print_core::print_core(alloc, file.as_str(), files, out),
+        Order::Rows { file } => print_rows::print_rows(alloc, file.as_str(), files, out),
+        Order::Check { file } => check::check(alloc, file.as_str(), files, out),
+        Order::Verify { file, attack } => {
+            verify::verify(alloc, file.as_str(), attack.as_str(), files, out)
+        }
+    }
+}

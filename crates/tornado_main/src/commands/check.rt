@@ -1,0 +1,101 @@
+//! `check FILE`
+
+ghost use Rattle.std.specs.Prelude.{◌≡◌, ◌∷◌, [], length, IfOk, MatchOption};
+ghost use Rattle.span_model.specs.Columns.{set_of};
+ghost use Rattle.span_model.specs.Attack.{IsLeak, HasAttack};
+ghost use Rattle.usuba0.specs.Circuit.{Circuit, IsCore, IsSmall, HasFewColumns};
+ghost use Rattle.linear_view.specs.View.{products_of};
+ghost use Rattle.linear_view.specs.Rows.{core_products, core_view};
+ghost use Rattle.attack_text.specs.AttackText.{attack_text};
+ghost use Rattle.tornado_main.specs.Ending.{Ends};
+ghost use Rattle.tornado_main.specs.commands.Check.{CheckEnds, IsAttackOfLeak};
+
+use crate::answer::{Answer, Line, send};
+use crate::fetch::core_of_file;
+use crate::refusal::Refusal;
+use crate::status::Status;
+use attack_cert::derive;
+use attack_probes::{unfold, unfolding_is_attack};
+use attack_model::Attack;
+use attack_text::write_attack;
+use gf2_span::BitRow;
+use linear_view::{View, attacks_are_the_views, view_of};
+use std::alloc::{AllocError, Global};
+use tightprove::{Verdict, search};
+use tor_edge::{Files, PutFault, Sink};
+use usuba0::Core;
+
+/// Prints whether the core has an attack, and one that it has.
+pub fn check<'a, F: Files, O: Sink>(
+    alloc: Global,
+    file: &'a str,
+    files: &mut F,
+    out: &mut O,
+) -> Result<Status, Refusal<'a>>
+    ensures { Ends F.faults F.too_long F.refused F.fetched F.contents O.faults O.written (file.now ∷ []) (CheckEnds (F.contents files.old) file.now)
+        files.old files.new out.old out.new result }
+{
+    let core = core_of_file(alloc, file, files)?;
+    match attack_on(alloc, &core)? {
+        None => {
+            send(&Line("secure\n"), out)?;
+            Ok(Status::Done)
+        }
+        Some(found) => {
+            send(&found, out)?;
+            Ok(Status::Found)
+        }
+    }
+}
+
+// An attack that was found, with the view on which it is one.
+#[derive(Drop)]
+struct Finding {
+    view: View,
+    attack: Attack,
+    ghost columns: { length attack.derivation.leak ≡ length view.columns },
+}
+
+impl Answer for Finding {
+    ghost text = { λ finding. attack_text finding.view finding.attack };
+
+    fn write<S: Sink>(&self, sink: &mut S) -> Result<(), PutFault> {
+        write_attack(&self.view, &self.attack, sink)
+    }
+}
+
+// An attack on the core, if it has one.
+fn attack_on(alloc: Global, core: &Core) -> Result<Option<Finding>, AllocError>
+    requires core { IsCore core.now }
+    requires within { IsSmall core.now × HasFewColumns core.now }
+    ensures { IfOk result (λ found. MatchOption found (¬ HasAttack (core_products core.now))
+        (λ finding. (finding.view ≡ core_view core.now) × IsAttackOfLeak core.now finding.attack)) }
+{
+    attacks_are_the_views();
+    let view = view_of(alloc, core)?;
+    match search(alloc, &view)? {
+        Verdict::Secure => Ok(None),
+        Verdict::Leak(leak) => {
+            let attack = attack_of_leak(alloc, &view, leak)?;
+            Ok(Some(Finding { view, attack }))
+        }
+    }
+}
+
+// The attack with this leak: its derivation, and what this unfolds to.
+fn attack_of_leak(alloc: Global, view: &View, leak: BitRow) -> Result<Attack, AllocError>
+    requires columns { length leak ≡ length view.now.columns }
+    requires leak { IsLeak (products_of view.now) (set_of leak) }
+    ensures { (core : Circuit) → IsCore core → view.now ≡ core_view core → IfOk result (IsAttackOfLeak core) }
+{
+    attacks_are_the_views();
+    unfolding_is_attack::<u32>();
+    let Some(derivation) = derive(alloc, view, leak)? else {
+        unreachable!()
+    };
+    let listing = unfold(alloc, &derivation)?;
+    Ok(Attack {
+        derivation,
+        listing,
+    })
+}

@@ -1,0 +1,17 @@
+mod JudgingLemmas
+mod Relating
+mod Solving
+mod Ordering
+mod Folds
+mod Sizing
+mod WalkLemmas
+mod Valuing
+mod CellLemmas
+mod Reaching
+mod ItemFolds
+mod NodeSizing
+mod Knowing
+mod Stability
+mod NodeOutcome
+mod FileOutcomes
+mod EntryOutcome

@@ -1,0 +1,15 @@
+pub mod Faults
+pub mod Indexes
+pub mod Shapes
+pub mod Cells
+pub mod Unrolled
+pub mod Names
+pub mod Entries
+pub mod Walk
+pub mod Assignments
+pub mod Operations
+pub mod Judging
+pub mod JudgingLaws
+pub mod Rounds
+pub mod OutcomeLaw
+pub mod Meaning

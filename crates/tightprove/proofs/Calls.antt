@@ -1,36 +1,22 @@
 -- What the answers of calls say together.
-use Rattle.std.proofs.Common.{◌≡◌, inl, inr, ℕ, ◌+◌, ◌<◌, ◌≤◌, Bool, true, false, not, List, [], ◌∷◌, ◌++◌, length, get_or, refl, sym, ap, ◌∙◌, subst, arith, MatchBool, MatchOption, Option, Some, None}
+use Rattle.std.proofs.Common.{◌≡◌, inl, inr, ℕ, ◌<◌, ◌≤◌, Bool, true, false, not, List, [], ◌∷◌, ◌++◌, length, get_or, refl, sym, ap, ◌∙◌, subst, arith, MatchBool, MatchOption, Option, Some, None}
 use Rattle.std.specs.Prelude.{replicate}
 use Rattle.std.specs.Bool.{OnTrue, OnFalse}
 use Rattle.std.specs.Option.{is_some}
-use Rattle.std.proofs.lemmas.List.{get_or_default, get_or_past, get_or-map, length-map, length-replicate, get_or-replicate}
+use Rattle.std.proofs.lemmas.List.{get_or_past, length-replicate, get_or-replicate}
 use Rattle.std.proofs.lemmas.Bool.{cases_lt}
 use Rattle.span_model.specs.Columns.{Columns, empty, set_of, sets_of}
 use Rattle.span_model.specs.Span.{InSpan, Spans, SameSpan, IsMeet}
-use Rattle.span_model.proofs.Members.{in_as, in_none, spans_all, spans_none}
+use Rattle.span_model.proofs.Members.{in_none, spans_none}
 use Rattle.gf2_span.specs.Basis.{Basis, row_sets}
 use Rattle.tightprove.specs.Classes.{MeetEmpty}
 use Rattle.tightprove.specs.Growth.{MeetsWithin, HasRowOutside, IsGrowth, IsGrown}
 use Rattle.tightprove.specs.declared.class.Class.{Class}
 use Rattle.tightprove.specs.declared.growth.Growth.{Growth}
-use Rattle.tightprove.proofs.Closures.{row_in, grown_none}
+use Rattle.gf2_span.proofs.Leads.{row_in, all_within}
+use Rattle.tightprove.proofs.Closures.{grown_none}
 
 -- ---- rows in a span, one by one
-
-pub within_more : (span : List (Columns ℕ)) (rows : List (List Bool)) (i : ℕ) (row : List Bool) → i < length rows → row ≡ get_or rows i row
-    → ((k : ℕ) → k < i → InSpan span (set_of (get_or rows k []))) → InSpan span (set_of row) → (k : ℕ) → k < i + 1 → InSpan span (set_of (get_or rows k []))
-within_more span rows i row h is below here k less = elim (cases_lt k i) [
-  | inl old ↦ below k old
-  | inr now ↦
-      let e : i ≡ k = omega arith in
-      let P : ℕ → Type 0 = λ j. InSpan span (set_of (get_or rows j [])) in
-      subst P e (in_as span (ap set_of (is ∙ get_or_default rows i row [] h)) here)
-]
-
-all_within : (span : List (Columns ℕ)) (rows : List (List Bool)) → ((k : ℕ) → k < length rows → InSpan span (set_of (get_or rows k []))) → Spans span (sets_of rows)
-all_within span rows inside = spans_all span (sets_of rows) (λ k d h.
-    let within : k < length rows = omega (arith, h, length-map rows set_of) in
-    in_as span (sym (get_or-map set_of rows k [] d within)) (inside k within))
 
 pub same_both : (span other : List (Columns ℕ)) (rows : List (List Bool)) (n : ℕ) (r : Bool) (Other : Type 0) → length rows ≤ n
     → ((k : ℕ) → k < n → InSpan span (set_of (get_or rows k []))) → SameSpan other (sets_of rows) → MatchBool r (Spans other span) Other
@@ -74,7 +60,7 @@ pub holds_answer : (candidates : Basis) (meet rows span : List (Columns ℕ)) (r
     → MatchBool r (Spans (rows ++ span) (row_sets candidates)) (HasRowOutside candidates.rows (rows ++ span))
 holds_answer candidates meet rows span true is h = λ v m. ((is v).0 (h v m)).1
 holds_answer candidates meet rows span false is h =
-    (h.0, h.1, λ m. h.2 ((is (set_of (get_or candidates.rows h.0 []))).1 (row_in candidates h.0 h.1, m)))
+    (h.0, h.1, λ m. h.2 ((is (set_of (get_or candidates.rows h.0 []))).1 (row_in candidates.rows h.0 h.1, m)))
 
 pub meets_answer : (candidates meet rows span : List (Columns ℕ)) (r : Bool) (Outside : Type 0) → IsMeet meet candidates (rows ++ span)
     → MatchBool r (Spans span meet) Outside → OnFalse (not r) (MeetsWithin candidates rows span)

@@ -1,19 +1,19 @@
 -- What a leak reaches: closures that stay within a span, and closures that are grown for many candidates together.
 use Rattle.std.proofs.Common.{◌≡◌, ◌≢◌, ◌⊎◌, inl, inr, ℕ, ◌<◌, ◌≤◌, suc, List, [], ◌∷◌, ◌++◌, length, get_or, refl, sym, ap, ◌∙◌, subst, arith, suc-le-suc}
 use Rattle.std.specs.List.{Contains}
-use Rattle.std.proofs.lemmas.List.{append-nil, length-map, get_or-map, get_or_past}
+use Rattle.std.proofs.lemmas.List.{append-nil, get_or_past}
 use Rattle.std.proofs.lemmas.Bool.{cases_lt}
 use Rattle.span_model.specs.Columns.{Columns, empty, ◌△◌, set_of}
 use Rattle.span_model.specs.Span.{InSpan, Spans, IsIndependent, IsMeet}
-use Rattle.span_model.specs.Attack.{Product, IsLeak, HasAttack}
+use Rattle.span_model.specs.Attack.{Product, HasAttack}
 use Rattle.span_model.specs.Closure.{Step, operand, co_operand, co_operands, IsChain, IsClosed}
 use Rattle.span_model.proofs.Sets.{△_cancel_right, empty-△}
-use Rattle.span_model.proofs.Members.{in_as, in_none, in_parts, in_sum, in_behind, in_front, spans_none, spans_both, spans_cons, all_in}
+use Rattle.span_model.proofs.Members.{in_as, in_none, in_parts, in_sum, in_behind, in_front, spans_none, spans_both, spans_cons, spans_follow}
 use Rattle.span_model.proofs.Ranks.{independent_at_most, independent_in_front}
-use Rattle.span_model.proofs.Closing.{attack_closes}
-use Rattle.span_model.proofs.Unfolding.{closed_attacks}
+use Rattle.span_model.specs.AttackLaws.{LeaksAreClosed}
+use Rattle.gf2_span.proofs.Leads.{row_in}
 use Rattle.gf2_span.specs.Basis.{Basis, row_sets}
-use Rattle.tightprove.specs.Classes.{class_at, class_rows, IsPartner, AreClassesOf, MeetEmpty, IsClean, KeepsLeaks, IsLeakOf}
+use Rattle.tightprove.specs.Classes.{class_at, class_rows, IsPartner, AreClassesOf, Leaks, MeetEmpty, IsClean, KeepsLeaks, IsLeakOf}
 use Rattle.tightprove.specs.Growth.{rows_of_all, MeetsWithin, IsHull, IsGrown, HasRowOutside, IsSaturated, span_at, ArePieces}
 use Rattle.tightprove.specs.declared.class.Class.{Class}
 
@@ -22,9 +22,6 @@ use Rattle.tightprove.specs.declared.class.Class.{Class}
 module _ {C : Type 0} where
   pub spans_self : (rows : List (Columns C)) → Spans rows rows
   spans_self rows v m = m
-
-  pub spans_follow : (a b c : List (Columns C)) → Spans a b → Spans b c → Spans a c
-  spans_follow a b c h k v m = h v (k v m)
 
   -- rows with more behind them span rows with less behind them
   pub spans_beside : (a b less more : List (Columns C)) → Spans b a → Spans more less → Spans (b ++ more) (a ++ less)
@@ -63,15 +60,15 @@ module _ {C : Type 0} where
 
 -- ---- leaks, by classes
 
-pub leak_some : (products : List (Product ℕ)) (v : Columns ℕ) → IsLeak products v → v ≢ empty
-leak_some products v leak = leak.2.nonempty
+pub leak_some : (products : List (Product ℕ)) (v : Columns ℕ) → Leaks products v → v ≢ empty
+leak_some products v leak = leak.0
 
 -- a leak stays within a span, or comes to a class whose rows lead out of it
 pub leak_stays : (classes : List Class) (products : List (Product ℕ)) (span : List (Columns ℕ)) (v : Columns ℕ) (Out : Type 0) → AreClassesOf products classes
     → ((i j : ℕ) → IsPartner classes i j → Spans span (class_rows classes j) ⊎ (InSpan (class_rows classes i ++ span) v → Out))
-    → IsLeak products v → InSpan span v ⊎ Out
+    → Leaks products v → InSpan span v ⊎ Out
 leak_stays classes products span v Out are each leak =
-    closure_stays products span v Out at_step (attack_closes products leak.0 v leak.1 leak.2)
+    closure_stays products span v Out at_step leak.1
   where
     at_step : (step : Step) → step.product < length products → Spans span (co_operand products step) ⊎ (InSpan (operand products step ++ span) v → Out)
     at_step step lt =
@@ -143,17 +140,12 @@ pub grown_leak : (classes : List Class) (candidates span : List (Columns ℕ)) �
     → (v : Columns ℕ) → InSpan candidates v → InSpan span v → v ≢ empty → IsLeakOf classes v
 grown_leak classes candidates span grown v m h some products are =
     let g = grown products are in
-    closed_attacks products v some (g.steps, g.reached v m, g.spanned v h)
-
--- a row of a basis is in its span
-pub row_in : (basis : Basis) (k : ℕ) → k < length basis.rows → InSpan (row_sets basis) (set_of (get_or basis.rows k []))
-row_in basis k lt =
-    in_as (row_sets basis) (get_or-map set_of basis.rows k [] empty lt) (all_in (row_sets basis) k empty (omega (arith, length-map basis.rows set_of)))
+    (some, (g.steps, g.reached v m, g.spanned v h))
 
 -- a leak that spans all the candidates is in a span that is grown for them as far as it goes
 pub leak_in_grown : (classes : List Class) (candidates : Basis) (span : List (Columns ℕ)) (v : Columns ℕ)
     → Spans span (row_sets candidates) ⊎ IsSaturated classes candidates span → Spans (v ∷ []) (row_sets candidates) → InSpan (row_sets candidates) v
-    → (products : List (Product ℕ)) → AreClassesOf products classes → IsLeak products v → InSpan span v
+    → (products : List (Product ℕ)) → AreClassesOf products classes → Leaks products v → InSpan span v
 leak_in_grown classes candidates span v ended alone m products are leak = elim ended [
   | inl within ↦ within v m
   | inr saturated ↦ elim (leak_stays classes products span v ⊥ are (each saturated) leak) [ inl x ↦ x | inr x ↦ absurd x ]
@@ -163,13 +155,13 @@ leak_in_grown classes candidates span v ended alone m products are leak = elim e
     each saturated i j partner = elim (saturated i j partner) [
       | inl x ↦ inl x
       | inr out ↦ inr (λ h. out.2 (spans_cons (class_rows classes i ++ span) v [] h (spans_none (class_rows classes i ++ span)) (set_of (get_or candidates.rows out.0 []))
-          (alone (set_of (get_or candidates.rows out.0 [])) (row_in candidates out.0 out.1))))
+          (alone (set_of (get_or candidates.rows out.0 [])) (row_in candidates.rows out.0 out.1))))
     ]
 
 -- the pieces hold all leaks among the candidates, where these have nothing in common with the span
 pub pieces_hold : (classes : List Class) (candidates : Basis) (span : List (Columns ℕ)) (pieces : List Basis)
     → ArePieces classes candidates span pieces → MeetEmpty (row_sets candidates) span
-    → (products : List (Product ℕ)) → AreClassesOf products classes → (v : Columns ℕ) → InSpan (row_sets candidates) v → IsLeak products v
+    → (products : List (Product ℕ)) → AreClassesOf products classes → (v : Columns ℕ) → InSpan (row_sets candidates) v → Leaks products v
     → (n : ℕ) × (n < length pieces) × InSpan (row_sets (span_at pieces n)) v
 pieces_hold classes candidates span pieces split apart products are v m leak =
     elim (leak_stays classes products span v ((n : ℕ) × (n < length pieces) × InSpan (row_sets (span_at pieces n)) v) are each leak) [
@@ -197,7 +189,7 @@ apart_within candidates rows span joint of_candidates of_span apart v m h =
 pub apart_outside : (candidates : Basis) (rows span joint : List (Columns ℕ)) → Spans joint (row_sets candidates) → Spans joint span → MeetEmpty rows joint
     → HasRowOutside candidates.rows span → HasRowOutside candidates.rows (rows ++ span)
 apart_outside candidates rows span joint of_candidates of_span apart out =
-    (out.0, out.1, λ h. out.2 (apart_within (row_sets candidates) rows span joint of_candidates of_span apart (set_of (get_or candidates.rows out.0 [])) (row_in candidates out.0 out.1) h))
+    (out.0, out.1, λ h. out.2 (apart_within (row_sets candidates) rows span joint of_candidates of_span apart (set_of (get_or candidates.rows out.0 [])) (row_in candidates.rows out.0 out.1) h))
 
 -- ---- all classes
 
@@ -213,12 +205,13 @@ partner_of classes i j partner = elim (cases_lt i (length classes)) [
 ]
 
 -- products whose classes are all clean have no attack
-pub all_clean : (classes : List Class) (products : List (Product ℕ)) → AreClassesOf products classes
+pub all_clean : LeaksAreClosed ℕ → (classes : List Class) (products : List (Product ℕ)) → AreClassesOf products classes
     → ((i : ℕ) → i < length classes → IsClean classes (class_rows classes i)) → ¬ HasAttack products
-all_clean classes products are clean attack =
+all_clean law classes products are clean attack =
     let v = attack.0 in
+    let leak : Leaks products v = (law products v).0 attack.1 in
     elim (leak_stays classes products [] v ⊥ are
-    (λ i j p. inr (λ h. clean i (partner_of classes i j p) products are v (rw append-nil at h) attack.1)) attack.1) [
-      | inl x ↦ leak_some products v attack.1 (in_none v x)
+    (λ i j p. inr (λ h. clean i (partner_of classes i j p) products are v (rw append-nil at h) leak)) leak) [
+      | inl x ↦ leak_some products v leak (in_none v x)
       | inr x ↦ x
     ]

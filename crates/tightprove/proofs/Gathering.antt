@@ -6,7 +6,7 @@ use Rattle.std.specs.Prelude.{replicate}
 use Rattle.std.specs.Bool.{OnTrue}
 use Rattle.std.proofs.lemmas.List.Sums.{sum_by-set}
 use Rattle.std.proofs.lemmas.List.Folds.{sum_by-replicate}
-use Rattle.std.proofs.lemmas.List.{length-append, get_or_append_left, get_or-append_right, get_or-set_same, get_or-set_other, get_or_past, length-set, length-map, get_or-map, map-append, append_assoc, take_all, take_more, length-replicate, get_or-replicate}
+use Rattle.std.proofs.lemmas.List.{length-append, get_or_default, get_or_append_left, get_or-append_right, get_or-set_same, get_or-set_other, get_or_past, length-set, length-map, get_or-map, take_all, take_more, length-replicate, get_or-replicate}
 use Rattle.std.proofs.lemmas.List.Elements.{Contains-append_left, Contains-push, Contains-push_cases}
 use Rattle.std.proofs.lemmas.Option.{slice_get-get_or, get_or_from_slice_get, slice_get_within}
 use Rattle.std.proofs.lemmas.Bool.{cases_lt, cases_eq}
@@ -15,41 +15,19 @@ use Rattle.span_model.specs.Columns.{Columns, empty, set_of, sets_of}
 use Rattle.span_model.specs.Span.{SameSpan}
 use Rattle.span_model.specs.Attack.{Product, product_at}
 use Rattle.span_model.specs.Closure.{Step, Side, on_left, on_right, operand, co_operand}
-use Rattle.span_model.proofs.Members.{in_later, in_head, in_behind, in_front, spans_none, spans_cons, spans_both}
 use Rattle.gf2_span.specs.Rows.{IsLast, HaveOwnLeads, LeadsAreKept}
 use Rattle.gf2_span.specs.Basis.{Basis, row_sets}
-use Rattle.std.specs.Option.{option_map}
-use Rattle.linear_view.specs.View.{LinearView, Operands, product_of, products_of, HasRows}
+use Rattle.linear_view.specs.View.{HasRows}
 use Rattle.tightprove.specs.Classes.{class_at, class_rows, IsPartner, StepBetween, AreStepsOf, AreClasses, AreByLead, HasClassesOf, HasPartnersAnd, HasInLanes, AreListed, AreNear, MeetEmpty}
 use Rattle.tightprove.specs.declared.class.Class.{Class}
 use Rattle.tightprove.proofs.Closures.{partner_of}
 
--- ---- spans grown row by row
+-- ---- rows
 
-pub sets_push : (rows : List (List Bool)) (row : List Bool) → sets_of (rows ++ row ∷ []) ≡ sets_of rows ++ set_of row ∷ []
-sets_push rows row = map-append set_of rows (row ∷ [])
-
-pub grown_more : (base old new : List (Columns ℕ)) (rows : List (List Bool)) (i : ℕ) (row : List Bool) → i < length rows → row ≡ get_or rows i row
-    → SameSpan old (base ++ sets_of (take i rows)) → SameSpan new (set_of row ∷ old) → SameSpan new (base ++ sets_of (take (i + 1) rows))
-grown_more base old new rows i row h is before grown =
-    let next : sets_of (take (i + 1) rows) ≡ sets_of (take i rows) ++ set_of row ∷ [] =
-    ap sets_of (take_more rows i row h ∙ ap (λ (r : List Bool). take i rows ++ r ∷ []) (sym is)) ∙ sets_push (take i rows) row in
-    let regroup : base ++ sets_of (take (i + 1) rows) ≡ (base ++ sets_of (take i rows)) ++ set_of row ∷ [] =
-    ap (λ (r : List (Columns ℕ)). base ++ r) next ∙ sym (append_assoc base (sets_of (take i rows)) (set_of row ∷ [])) in
-    λ v. rw regroup (
-      (λ m. spans_both ((base ++ sets_of (take i rows)) ++ set_of row ∷ []) (set_of row ∷ []) old
-          (λ u n. in_front (base ++ sets_of (take i rows)) (set_of row ∷ []) u n)
-          (λ u n. in_behind (base ++ sets_of (take i rows)) (set_of row ∷ []) u ((before u).0 n)) v ((grown v).0 m)),
-      (λ m. (grown v).1 (spans_both (set_of row ∷ old) (base ++ sets_of (take i rows)) (set_of row ∷ [])
-          (λ u n. in_later (set_of row) old u ((before u).1 n))
-          (spans_cons (set_of row ∷ old) (set_of row) [] (in_head (set_of row) old) (spans_none (set_of row ∷ old))) v m)),
-    )
-
-pub grown_end : (base sum : List (Columns ℕ)) (rows : List (List Bool)) (i : ℕ) → length rows ≤ i → SameSpan sum (base ++ sets_of (take i rows))
-    → SameSpan sum (base ++ sets_of rows)
-grown_end base sum rows i past same =
-    let P : List (List Bool) → Type 0 = λ (r : List (List Bool)). SameSpan sum (base ++ sets_of r) in
-    subst P (take_all i rows past) same
+-- rows that each have so many columns all have
+pub all_wide : (columns : ℕ) (rows : List (List Bool)) → ((k : ℕ) → k < length rows → length (get_or rows k []) ≡ columns)
+    → All (λ row. length row ≡ columns) rows
+all_wide columns rows wide k d lt = ap length (get_or_default rows k d [] lt) ∙ wide k lt
 
 -- one more row of a list
 pub taken_more : {X : Type 0} (xs got : List X) (i : ℕ) (x : X) → got ≡ take i xs → slice_get xs i ≡ Some x → got ++ x ∷ [] ≡ take (i + 1) xs
@@ -509,29 +487,10 @@ near_ends columns classes table span leads flags near law are by_lead own all la
 
 -- ---- products of a view
 
-some_of : {X Y : Type 0} (f : X → Y) (found : Option X) (y : Y) → Some y ≡ option_map f found → (x : X) × (found ≡ Some x) × (f x ≡ y)
-some_of f None y e = cc e
-some_of f (Some x) y e = (x, refl, cc e)
-
-none_of : {X Y : Type 0} (f : X → Y) (found : Option X) → None ≡ option_map f found → found ≡ None
-none_of f None e = refl
-none_of f (Some x) e = cc e
-
-pub no_operands : (products : List Operands) (k : ℕ) (f : Operands → List (List Bool)) → None ≡ option_map f (slice_get products k) → k < length products → ⊥
-no_operands products k f e lt = none_past products k (record { left = []; right = [] }) (sym (none_of f (slice_get products k) e)) lt
-
-pub product_is : (view : LinearView) (k : ℕ) (left right : List (List Bool)) → k < length view.products
-    → Some left ≡ option_map (λ (o : Operands). o.left) (slice_get view.products k) → Some right ≡ option_map (λ (o : Operands). o.right) (slice_get view.products k)
-    → product_at (products_of view) k ≡ record { left = sets_of left; right = sets_of right }
-product_is view k left right lt e f =
-    let l = some_of (λ (o : Operands). o.left) (slice_get view.products k) left e in
-    let r = some_of (λ (o : Operands). o.right) (slice_get view.products k) right f in
-    let same : l.0 ≡ r.0 = cc (l.1, r.1) in
-    let right_is : l.0.right ≡ right = ap (λ (o : Operands). o.right) same ∙ r.2 in
-    let at : product_at (products_of view) k ≡ product_of l.0 =
-    get_or-map product_of view.products k l.0 (record { left = []; right = [] }) lt ∙ ap product_of (get_or_from_slice_get view.products k l.0 l.0 l.1) in
-    let P : Product ℕ → Type 0 = λ p. p ≡ record { left = sets_of left; right = sets_of right } in
-    at ∙ ap (λ (r : List (List Bool)). record { left = sets_of r; right = sets_of l.0.right }) l.2 ∙ ap (λ (r : List (List Bool)). record { left = sets_of left; right = sets_of r }) right_is
+-- the sides of a product that are given as sets are its operands
+pub product_is : (product : Product ℕ) (left right : List (Columns ℕ)) → left ≡ product.left → right ≡ product.right → product ≡ record { left = left; right = right }
+product_is product left right of_left of_right =
+    ap (λ (r : List (Columns ℕ)). record { left = r; right = product.right }) (sym of_left) ∙ ap (λ (r : List (Columns ℕ)). record { left = left; right = r }) (sym of_right)
 
 pub rows_wide : (columns : ℕ) (rows : List (List Bool)) → HasRows columns rows → (k : ℕ) → k < length rows → length (get_or rows k []) ≡ columns
 rows_wide columns rows has k lt = has.same_columns k [] lt

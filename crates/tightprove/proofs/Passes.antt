@@ -13,7 +13,8 @@ use Rattle.tightprove.specs.Classes.{class_rows, IsPartner, AreNear, MeetEmpty}
 use Rattle.tightprove.specs.Growth.{IsHull, HasRowOutside, IsSaturated, IsGrowth, MeetsNoMore, HoldsNoMore, left_over, span_at, IsInPieces, ArePieces}
 use Rattle.tightprove.specs.declared.class.Class.{Class}
 use Rattle.tightprove.specs.declared.growth.Growth.{Growth}
-use Rattle.tightprove.proofs.Closures.{apart_within, apart_outside, row_in, fewer_rows}
+use Rattle.tightprove.proofs.Closures.{apart_within, apart_outside, fewer_rows}
+use Rattle.gf2_span.proofs.Leads.{row_in}
 
 -- ---- what is left over
 
@@ -222,7 +223,7 @@ pieces_same classes candidates span near n pieces piece so_far apart ended free 
             | inl x ↦ inl x
             | inr out ↦ absurd (
                 let less : length (row_sets piece) < length (row_sets candidates) =
-                fewer_rows (row_sets piece) (row_sets candidates) (set_of (get_or candidates.rows out.0 [])) free (λ v c. ((meet v).0 c).0) (row_in candidates out.0 out.1) (λ c. out.2 ((meet (set_of (get_or candidates.rows out.0 []))).0 c).1) in
+                fewer_rows (row_sets piece) (row_sets candidates) (set_of (get_or candidates.rows out.0 [])) free (λ v c. ((meet v).0 c).0) (row_in candidates.rows out.0 out.1) (λ c. out.2 ((meet (set_of (get_or candidates.rows out.0 []))).0 c).1) in
                 omega (arith, less, length-map piece.rows set_of, length-map candidates.rows set_of)
                 )
           ]

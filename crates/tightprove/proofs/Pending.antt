@@ -6,9 +6,9 @@ use Rattle.std.proofs.lemmas.List.{append_assoc, append-nil, get_or_append_left,
 use Rattle.std.proofs.lemmas.Bool.{cases_lt}
 use Rattle.span_model.specs.Columns.{Columns}
 use Rattle.span_model.specs.Span.{InSpan, Spans}
-use Rattle.span_model.specs.Attack.{Product, IsLeak}
+use Rattle.span_model.specs.Attack.{Product}
 use Rattle.gf2_span.specs.Basis.{Basis, row_sets}
-use Rattle.tightprove.specs.Classes.{AreClassesOf, IsClean}
+use Rattle.tightprove.specs.Classes.{AreClassesOf, Leaks, IsClean}
 use Rattle.tightprove.specs.Growth.{span_at, AreKnown}
 use Rattle.tightprove.specs.Tasks.{searches, IsPending, LeaksArePending, AreInOrder, HaveColumns, work, HoldLeaks, IsDone}
 use Rattle.tightprove.specs.declared.class.Class.{Class}
@@ -37,7 +37,7 @@ pending_cases (Record span ∷ tasks) more v h = pending_cases tasks more v h
 
 -- other last tasks, in which the same leaks are pending
 pub pending_instead : (classes : List Class) (rows : List (Columns ℕ)) (tasks last others : List Task)
-    → ((products : List (Product ℕ)) → AreClassesOf products classes → (v : Columns ℕ) → IsLeak products v → IsPending last v → IsPending others v)
+    → ((products : List (Product ℕ)) → AreClassesOf products classes → (v : Columns ℕ) → Leaks products v → IsPending last v → IsPending others v)
     → LeaksArePending classes rows (tasks ++ last) → LeaksArePending classes rows (tasks ++ others)
 pending_instead classes rows tasks last others instead pending products are v m leak = elim (pending_cases tasks last v (pending products are v m leak)) [
   | inl x ↦ pending_left tasks others v x
@@ -45,7 +45,7 @@ pending_instead classes rows tasks last others instead pending products are v m 
 ]
 
 pub order_instead : (classes : List Class) (tasks last others : List Task)
-    → ((products : List (Product ℕ)) → AreClassesOf products classes → (v : Columns ℕ) → IsLeak products v → IsPending last v → IsPending others v)
+    → ((products : List (Product ℕ)) → AreClassesOf products classes → (v : Columns ℕ) → Leaks products v → IsPending last v → IsPending others v)
     → AreInOrder classes others → AreInOrder classes (tasks ++ last) → AreInOrder classes (tasks ++ others)
 order_instead classes [] last others instead order was = order
 order_instead classes (Search span ∷ tasks) last others instead order was = order_instead classes tasks last others instead order was
@@ -69,7 +69,7 @@ searches_order classes (piece ∷ pieces) = searches_order classes pieces
 
 -- the pieces of a span, with the note to record it, in place of its search
 pub pieces_instead : (classes : List Class) (span : Basis) (pieces : List Basis) → HoldLeaks classes span pieces
-    → (products : List (Product ℕ)) → AreClassesOf products classes → (v : Columns ℕ) → IsLeak products v → IsPending (Search span ∷ []) v
+    → (products : List (Product ℕ)) → AreClassesOf products classes → (v : Columns ℕ) → Leaks products v → IsPending (Search span ∷ []) v
     → IsPending (Record span ∷ searches pieces) v
 pieces_instead classes span pieces hold products are v leak h = elim h [
   | inl m ↦ (let p = hold.leaks products are v m leak in pending_piece pieces p.0 v p.1 p.2)
@@ -82,11 +82,11 @@ pieces_order classes span pieces hold =
 
 -- a span within a clean one need not be searched
 pub clean_instead : (classes : List Class) (span : Basis) → IsClean classes (row_sets span)
-    → (products : List (Product ℕ)) → AreClassesOf products classes → (v : Columns ℕ) → IsLeak products v → IsPending (Search span ∷ []) v → IsPending [] v
+    → (products : List (Product ℕ)) → AreClassesOf products classes → (v : Columns ℕ) → Leaks products v → IsPending (Search span ∷ []) v → IsPending [] v
 clean_instead classes span clean products are v leak h = elim h [ inl m ↦ clean products are v m leak | inr x ↦ x ]
 
 pub record_instead : (classes : List Class) (span : Basis)
-    → (products : List (Product ℕ)) → AreClassesOf products classes → (v : Columns ℕ) → IsLeak products v → IsPending (Record span ∷ []) v → IsPending [] v
+    → (products : List (Product ℕ)) → AreClassesOf products classes → (v : Columns ℕ) → Leaks products v → IsPending (Record span ∷ []) v → IsPending [] v
 record_instead classes span products are v leak h = h
 
 pub clean_within : (classes : List Class) (rows less : List (Columns ℕ)) → Spans rows less → IsClean classes rows → IsClean classes less
@@ -182,7 +182,7 @@ known_more classes count spans span known columns clean =
 -- ---- a task that is done
 
 as_before : (classes : List Class) (tasks last : List Task) (count : ℕ) → HaveColumns count (tasks ++ last) → AreInOrder classes (tasks ++ last)
-    → ((products : List (Product ℕ)) → AreClassesOf products classes → (v : Columns ℕ) → IsLeak products v → IsPending last v → IsPending [] v)
+    → ((products : List (Product ℕ)) → AreClassesOf products classes → (v : Columns ℕ) → Leaks products v → IsPending last v → IsPending [] v)
     → work (length classes) tasks < work (length classes) (tasks ++ last) → IsDone classes count (tasks ++ last) tasks
 as_before classes tasks last count columns order instead less = record {
   columns = columns_first count tasks last columns;

@@ -7,14 +7,14 @@ use Rattle.std.proofs.lemmas.Bool.{cases_eq}
 use Rattle.std.proofs.lemmas.List.Elements.{Contains-get_or}
 use Rattle.span_model.specs.Columns.{Columns, sets_of}
 use Rattle.span_model.specs.Span.{Spans, SameSpan}
-use Rattle.span_model.proofs.Members.{in_behind, in_front, spans_both}
+use Rattle.span_model.proofs.Members.{in_behind, in_front, spans_both, spans_follow}
 use Rattle.gf2_span.specs.Basis.{Basis, row_sets}
 use Rattle.gf2_span.specs.Rows.{HaveOwnLeads}
 use Rattle.tightprove.specs.Classes.{class_at, class_rows, IsPartner, AreClasses}
 use Rattle.tightprove.specs.Growth.{rows_of_all, IsGrowth, IsGrown}
 use Rattle.tightprove.specs.declared.class.Class.{Class}
 use Rattle.tightprove.specs.declared.growth.Growth.{Growth}
-use Rattle.tightprove.proofs.Closures.{spans_follow, spans_self, spans_beside, grown_all, grown_less}
+use Rattle.tightprove.proofs.Closures.{spans_self, spans_beside, grown_all, grown_less}
 
 -- ---- a class that is read
 

@@ -4,6 +4,7 @@ use Rattle.std.specs.List.{Contains}
 use Rattle.std.proofs.lemmas.List.{get_or_default}
 use Rattle.span_model.specs.Columns.{Columns, empty, sets_of}
 use Rattle.span_model.specs.Span.{InSpan, Spans, SameSpan}
+use Rattle.span_model.specs.AttackLaws.{LeaksAreClosed}
 use Rattle.span_model.specs.Attack.{Product, IsLeak, HasAttack}
 use Rattle.span_model.proofs.Members.{in_head, in_none}
 use Rattle.gf2_span.specs.Basis.{Basis, row_sets}
@@ -20,15 +21,15 @@ match_same true P Q f g p = f p
 match_same false P Q f g n = λ q. n (g q)
 
 -- a set is a leak exactly where it is in the span that is grown for it
-pub leaks_exact : (classes : List Class) (products : List (Product ℕ)) → AreClassesOf products classes → (candidates : Basis) (span : List (Columns ℕ)) (v : Columns ℕ)
+pub leaks_exact : LeaksAreClosed ℕ → (classes : List Class) (products : List (Product ℕ)) → AreClassesOf products classes → (candidates : Basis) (span : List (Columns ℕ)) (v : Columns ℕ)
     → SameSpan (row_sets candidates) (v ∷ []) → v ≢ empty → IsGrown classes (row_sets candidates) span
     → Spans span (row_sets candidates) ⊎ IsSaturated classes candidates span
     → (r : Bool) → MatchBool r (InSpan span v) (¬ InSpan span v) → MatchBool r (IsLeak products v) (¬ IsLeak products v)
-leaks_exact classes products are candidates span v same some grown ended r h =
+leaks_exact law classes products are candidates span v same some grown ended r h =
     let inside : InSpan (row_sets candidates) v = (same v).1 (in_head v []) in
     match_same r (InSpan span v) (IsLeak products v)
-    (λ m. grown_leak classes (row_sets candidates) span grown v inside m some products are)
-    (leak_in_grown classes candidates span v ended (λ u m. (same u).0 m) inside products are) h
+    (λ m. (law products v).1 (grown_leak classes (row_sets candidates) span grown v inside m some products are))
+    (λ leak. leak_in_grown classes candidates span v ended (λ u m. (same u).0 m) inside products are ((law products v).0 leak)) h
 
 -- the pieces of what is left of the candidates hold all their leaks
 pub split_pieces : (classes : List Class) (candidates rest : Basis) (span : List (Columns ℕ)) (pieces : List Basis) → rest.columns ≡ candidates.columns
@@ -62,11 +63,11 @@ class_clean classes i span rows clean same is =
     subst P is (clean_within classes span rows (λ v m. (same v).1 m) clean)
 
 -- with all listed classes clean there is no attack
-pub listed_clean : (classes : List Class) (products : List (Product ℕ)) (order : List ℕ) (n : ℕ) → AreClassesOf products classes
+pub listed_clean : LeaksAreClosed ℕ → (classes : List Class) (products : List (Product ℕ)) (order : List ℕ) (n : ℕ) → AreClassesOf products classes
     → ((i : ℕ) → i < length classes → Contains order i) → length order ≤ n
     → ((k : ℕ) → k < n → IsClean classes (class_rows classes (get_or order k 0))) → ¬ HasAttack products
-listed_clean classes products order n are all past clean =
-    all_clean classes products are (λ i lt.
+listed_clean law classes products order n are all past clean =
+    all_clean law classes products are (λ i lt.
     let f = all i lt in
     let P : ℕ → Type 0 = λ j. IsClean classes (class_rows classes j) in
     subst P (get_or_default order f.0 0 i f.1 ∙ f.2) (clean f.0 (omega (arith, f.1))))

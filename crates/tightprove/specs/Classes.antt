@@ -1,9 +1,9 @@
 -- The operands of products, gathered in classes: operands that span the same sets are one class.
-use Rattle.std.specs.Prelude.{◌≡◌, ◌<◌, ◌≤◌, ◌↔◌, ◌⊎◌, ◌+◌, ◌^◌, ℕ, not, count_by, Bool, true, false, List, [], length, slice_index_or, All, Contains}
+use Rattle.std.specs.Prelude.{◌≡◌, ◌≢◌, ◌<◌, ◌≤◌, ◌↔◌, ◌⊎◌, ◌+◌, ◌^◌, ℕ, not, count_by, Bool, true, false, List, [], length, slice_index_or, All, Contains}
 use Rattle.span_model.specs.Columns.{Columns, empty, sets_of}
 use Rattle.span_model.specs.Span.{InSpan, SameSpan}
-use Rattle.span_model.specs.Attack.{Product, IsLeak}
-use Rattle.span_model.specs.Closure.{Step, operand, co_operand}
+use Rattle.span_model.specs.Attack.{Product}
+use Rattle.span_model.specs.Closure.{Step, operand, co_operand, IsClosed}
 use Rattle.gf2_span.specs.Rows.{IsLast, HaveOwnLeads}
 use Rattle.tightprove.specs.declared.class.Class.{Class}
 use Rattle.tightprove.specs.declared.classes.Classes.{Classes}
@@ -86,16 +86,20 @@ pub record AreNear (classes : List Class) (rows : List (Columns ℕ)) (near : Li
   pub numbers : All (λ i. i < length classes) near
   pub others : (i : ℕ) → Contains near i ⊎ MeetEmpty (class_rows classes i) rows
 
+-- the set is closed and not empty: by the law `leaks_are_closed` of `span_model` it is the leak of an attack
+abbrev pub Leaks : List (Product ℕ) → Columns ℕ → Type 0
+Leaks products v = (v ≢ empty) × IsClosed products v
+
 -- no member of the span of the rows is a leak of products that have these classes
 abbrev pub IsClean : List Class → List (Columns ℕ) → Type 0
 IsClean classes rows =
-    (products : List (Product ℕ)) → AreClassesOf products classes → (v : Columns ℕ) → InSpan rows v → ¬ IsLeak products v
+    (products : List (Product ℕ)) → AreClassesOf products classes → (v : Columns ℕ) → InSpan rows v → ¬ Leaks products v
 
 -- each member of the span of the rows that is a leak of products with these classes is in the span of the others
 abbrev pub KeepsLeaks : List Class → (rows others : List (Columns ℕ)) → Type 0
 KeepsLeaks classes rows others =
-    (products : List (Product ℕ)) → AreClassesOf products classes → (v : Columns ℕ) → InSpan rows v → IsLeak products v → InSpan others v
+    (products : List (Product ℕ)) → AreClassesOf products classes → (v : Columns ℕ) → InSpan rows v → Leaks products v → InSpan others v
 
 -- the set is a leak of each list of products that has these classes
 abbrev pub IsLeakOf : List Class → Columns ℕ → Type 0
-IsLeakOf classes v = (products : List (Product ℕ)) → AreClassesOf products classes → IsLeak products v
+IsLeakOf classes v = (products : List (Product ℕ)) → AreClassesOf products classes → Leaks products v

@@ -2,9 +2,9 @@
 use Rattle.std.specs.Prelude.{◌≡◌, ◌<◌, ◌≤◌, ◌+◌, ◌^◌, ◌⊎◌, ℕ, List, [], ◌∷◌, length, ⊤}
 use Rattle.span_model.specs.Columns.{Columns, set_of}
 use Rattle.span_model.specs.Span.{InSpan}
-use Rattle.span_model.specs.Attack.{Product, IsLeak}
+use Rattle.span_model.specs.Attack.{Product}
 use Rattle.gf2_span.specs.Basis.{Basis, row_sets}
-use Rattle.tightprove.specs.Classes.{AreClassesOf, IsLeakOf}
+use Rattle.tightprove.specs.Classes.{AreClassesOf, Leaks, IsLeakOf}
 use Rattle.tightprove.specs.Growth.{span_at}
 use Rattle.tightprove.specs.declared.class.Class.{Class}
 use Rattle.tightprove.specs.declared.tasks.Task.{Task}
@@ -26,7 +26,7 @@ IsPending (Record span ∷ tasks) v = IsPending tasks v
 -- each member of the span of the rows that is a leak of products with these classes is in a span that is still to be searched
 abbrev pub LeaksArePending : List Class → List (Columns ℕ) → List Task → Type 0
 LeaksArePending classes rows tasks =
-    (products : List (Product ℕ)) → AreClassesOf products classes → (v : Columns ℕ) → InSpan rows v → IsLeak products v → IsPending tasks v
+    (products : List (Product ℕ)) → AreClassesOf products classes → (v : Columns ℕ) → InSpan rows v → Leaks products v → IsPending tasks v
 
 -- the tasks are done from the last one on. The leaks in a span that is to be recorded are in spans that are searched before
 abbrev pub AreInOrder : List Class → List Task → Type 0
@@ -58,7 +58,7 @@ pub record HoldLeaks (classes : List Class) (candidates : Basis) (pieces : List 
   pub few : length pieces ≤ length classes
   pub columns : (n : ℕ) → n < length pieces → (span_at pieces n).columns ≡ candidates.columns
   pub proper : (n : ℕ) → n < length pieces → length (span_at pieces n).rows < length candidates.rows
-  pub leaks : (products : List (Product ℕ)) → AreClassesOf products classes → (v : Columns ℕ) → InSpan (row_sets candidates) v → IsLeak products v
+  pub leaks : (products : List (Product ℕ)) → AreClassesOf products classes → (v : Columns ℕ) → InSpan (row_sets candidates) v → Leaks products v
       → (n : ℕ) × (n < length pieces) × InSpan (row_sets (span_at pieces n)) v
 
 -- what the search of one span of candidates gives: a leak, or pieces that hold all their leaks

@@ -10,7 +10,7 @@ ghost use Rattle.std.specs.Bool.{OnTrue};
 
 use crate::class::Class;
 use gf2_span::{BitRow, Span, leads_are_kept};
-use linear_view::View;
+use linear_view::{Operand, Side, View};
 use std::alloc::{AllocError, Global};
 use tor_edge::List;
 
@@ -32,18 +32,6 @@ impl Classes {
     }
 }
 
-// Grows the span by rows.
-pub(crate) fn insert_all(alloc: Global, span: &mut Span, rows: &[BitRow]) -> Result<(), AllocError>
-    requires { (k : ℕ) → k < length rows.now → length (slice_index_or rows.now k []) ≡ span.old.columns }
-    ensures columns { span.new.columns ≡ span.old.columns }
-    ensures span { OnOk result (SameSpan (row_sets span.new) (row_sets span.old ++ sets_of rows.now)) }
-{
-    for row in rows {
-        let _fresh = span.insert(row.copy(alloc)?)?;
-    }
-    Ok(())
-}
-
 // The span of rows.
 pub(crate) fn span_of(alloc: Global, columns: u32, rows: &[BitRow]) -> Result<Span, AllocError>
     requires { (k : ℕ) → k < length rows.now → length (slice_index_or rows.now k []) ≡ columns }
@@ -51,7 +39,7 @@ pub(crate) fn span_of(alloc: Global, columns: u32, rows: &[BitRow]) -> Result<Sp
     ensures span { IfOk result (λ span. SameSpan (row_sets span) (sets_of rows.now)) }
 {
     let mut span = Span::new(alloc, columns)?;
-    insert_all(alloc, &mut span, rows)?;
+    span.insert_all(alloc, rows)?;
     Ok(span)
 }
 
@@ -276,21 +264,15 @@ fn add_numbered(
     ensures by_lead { OnOk result (AreByLead list.new.items by_lead.new.items) }
     ensures width { length by_lead.new.items ≡ length view.now.columns }
 {
-    let columns = view.columns();
-    let Some(left) = view.left(k) else {
-        return Ok(());
-    };
-    let Some(right) = view.right(k) else {
-        return Ok(());
-    };
-    add_product(
-        alloc,
-        columns,
-        list,
-        by_lead,
-        left.as_slice(),
-        right.as_slice(),
-    )?;
+    let left = view.operand(Operand {
+        product: k,
+        side: Side::Left,
+    });
+    let right = view.operand(Operand {
+        product: k,
+        side: Side::Right,
+    });
+    add_product(alloc, view.columns(), list, by_lead, left, right)?;
     Ok(())
 }
 

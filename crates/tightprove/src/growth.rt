@@ -7,7 +7,7 @@ ghost use Rattle.gf2_span.specs.Rows.{HaveOwnLeads};
 ghost use Rattle.tightprove.specs.Classes.{class_at, class_rows, IsGathered, KeepsLeaks};
 ghost use Rattle.tightprove.specs.Growth.{rows_of_all, MeetsWithin, LeadsWithin, IsHull, IsGrown, IsSaturated, HasRowOutside, IsGrowth, MeetsNoMore, HoldsNoMore, left_over};
 
-use crate::classes::{Classes, insert_all, touching};
+use crate::classes::{Classes, touching};
 use gf2_span::{BitRow, Span, leads_are_kept};
 use std::alloc::{AllocError, Global};
 
@@ -52,8 +52,8 @@ impl Growth {
     {
         for j in classes.list[i].partners.as_slice() {
             let rows = classes.list[*j].rows.as_slice();
-            insert_all(alloc, &mut self.span, rows)?;
-            insert_all(alloc, &mut self.joint, rows)?;
+            self.span.insert_all(alloc, rows)?;
+            self.joint.insert_all(alloc, rows)?;
         }
         self.taken.flip(i as u32);
         Ok(())

@@ -12,7 +12,5 @@ mod pieces;
 mod searches;
 mod split;
 mod tasks;
-#[cfg(test)]
-mod tests;
 
 pub use searches::{Verdict, leaks, search};

@@ -13,6 +13,7 @@ use crate::known::Known;
 use crate::tasks::leak_among;
 use gf2_span::{BitRow, Span};
 use linear_view::View;
+use span_model::leaks_are_closed;
 use std::alloc::{AllocError, Global};
 
 /// Whether products have an attack, and the leak of one.
@@ -39,6 +40,7 @@ fn largest_first(alloc: Global, classes: &Classes) -> Result<Vec<usize>, AllocEr
 pub fn search(alloc: Global, view: &View) -> Result<Verdict, AllocError>
     ensures { IfOk result (λ verdict. IsVerdictOf (length view.now.columns) (products_of view.now) verdict) }
 {
+    leaks_are_closed::<u32>();
     let classes = classes_of(alloc, view)?;
     let mut known = Known::new(alloc, classes.columns)?;
     for i in &largest_first(alloc, &classes)? {
@@ -59,6 +61,7 @@ pub fn leaks(alloc: Global, view: &View, leak: &BitRow) -> Result<bool, AllocErr
     if leak.is_zero() {
         return Ok(false);
     }
+    leaks_are_closed::<u32>();
     let classes = classes_of(alloc, view)?;
     let mut candidates = Span::new(alloc, classes.columns)?;
     let _fresh = candidates.insert(leak.copy(alloc)?)?;

@@ -1,6 +1,7 @@
 use Rattle.std.proofs.Common.{◌∙◌}
 use Rattle.gf2_span.specs.Basis.{row_sets}
-use Rattle.tightprove.proofs.Calls.{within_more, same_both}
+use Rattle.gf2_span.proofs.Leads.{within_more}
+use Rattle.tightprove.proofs.Calls.{same_both}
 use Rattle.tightprove.proofs.classes.is_same.Goals as goal
 
 pub loop-row-preserved : goal.loop-row-preserved

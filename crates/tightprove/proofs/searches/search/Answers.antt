@@ -1,4 +1,4 @@
-use Rattle.std.proofs.Common.{◌≡◌, ◌<◌, ℕ, Bool, List, Option, MatchOption, All, inl, inr, length, get_or, sym, subst, arith}
+use Rattle.std.proofs.Common.{◌≡◌, ◌<◌, ℕ, Bool, List, Option, MatchOption, All, inl, inr, length, get_or, sym, ◌∙◌, subst, arith}
 use Rattle.std.proofs.lemmas.Bool.{cases_lt}
 use Rattle.span_model.specs.Columns.{set_of, sets_of}
 use Rattle.gf2_span.specs.Basis.{row_sets}
@@ -13,7 +13,7 @@ use Rattle.tightprove.proofs.searches.search.Goals as goal
 pub returns : goal.returns
 returns c =
     let P : List ℕ → Type 0 = λ xs. (i : ℕ) → i < length c.in_ok-classes.classes.list.items → Contains xs i in
-    listed_clean c.in_ok-classes.classes.list.items (products_of c.args.view.now) c.deref-i-items.result.now c.loop-i.i-index c.in_ok-classes.ensures.products
+    listed_clean c.leaks_are_closed.ensures c.in_ok-classes.classes.list.items (products_of c.args.view.now) c.deref-i-items.result.now c.loop-i.i-index c.in_ok-classes.ensures.products
     (subst P (sym c.deref-i-items.ensures.value) c.in_ok-largest_first.ensures.all) c.loop-i-test.false c.loop-i.invariant.clean
 
 pub loop-i-preserved : goal.loop-i-preserved
@@ -39,3 +39,11 @@ loop-i-preserved c =
             subst R e here
       ];
     }
+
+pub returns-in-Some : goal.returns-in-Some
+returns-in-Some c =
+    let Q : Option (List Bool) → Type 0 = λ found. MatchOption found (IsClean c.in_ok-classes.classes.list.items (row_sets c.in_ok-candidates.candidates)) (λ leak. (length leak ≡ c.in_ok-classes.classes.columns) × IsLeakOf c.in_ok-classes.classes.list.items (set_of leak)) in
+    let found : (length c.in-Some.leak ≡ c.in_ok-classes.classes.columns) × IsLeakOf c.in_ok-classes.classes.list.items (set_of c.in-Some.leak) = subst Q c.in-Some.is c.in_ok-leak.ensures.answer in (
+      found.0 ∙ c.in_ok-classes.ensures.columns,
+      (c.leaks_are_closed.ensures (products_of c.args.view.now) (set_of c.in-Some.leak)).1 (found.1 (products_of c.args.view.now) c.in_ok-classes.ensures.products),
+    )

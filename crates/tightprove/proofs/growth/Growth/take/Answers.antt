@@ -2,6 +2,7 @@ use Rattle.std.proofs.Common.{◌≡◌, ◌<◌, ℕ, List, length, get_or, sym
 use Rattle.span_model.specs.Columns.{sets_of}
 use Rattle.gf2_span.specs.Basis.{row_sets}
 use Rattle.tightprove.specs.Classes.{class_at, class_rows}
+use Rattle.tightprove.proofs.Gathering.{all_wide}
 use Rattle.tightprove.proofs.Taking.{wide_at, rows_at, partners_at, partner_lt, all_more, all_end, growth_taken, flag_set}
 use Rattle.tightprove.proofs.growth.Growth.take.Goals as goal
 
@@ -14,24 +15,24 @@ index-requires-in-loop-j c =
     omega (arith, lt)
 
 pub insert_all-requires : goal.insert_all-requires
-insert_all-requires c k h =
+insert_all-requires c =
     let e : c.as_slice-j-items.result.now ≡ (class_at c.args.classes.now.list.items c.args.i).partners =
     partners_at c.args.classes.now.list.items c.args.i c.index.result.now c.as_slice-j-items.result.now c.requires.i c.index.ensures c.as_slice-j-items.ensures in
     let lt : get_or c.as_slice-j-items.result.now c.loop-j.j-index 0 < length c.args.classes.now.list.items =
     partner_lt c.args.classes.now.columns c.args.classes.now.list.items c.args.i c.loop-j.j-index c.as_slice-j-items.result.now c.requires.classes.classes e c.loop-j-test.true in
-    wide_at c.args.classes.now.columns c.args.classes.now.list.items (get_or c.as_slice-j-items.result.now c.loop-j.j-index 0) c.index-in-loop-j.result.now c.as_slice-rows.result.now
+    all_wide _ c.as_slice-rows.result.now (λ k h. wide_at c.args.classes.now.columns c.args.classes.now.list.items (get_or c.as_slice-j-items.result.now c.loop-j.j-index 0) c.index-in-loop-j.result.now c.as_slice-rows.result.now
     c.requires.classes.classes lt c.index-in-loop-j.ensures c.as_slice-rows.ensures k h
-    ∙ sym (c.loop-j.invariant.columns ∙ c.requires.growth.columns ∙ c.requires.columns)
+    ∙ sym (c.loop-j.invariant.columns ∙ c.requires.growth.columns ∙ c.requires.columns))
 
 pub insert_all-requires-in-loop-j : goal.insert_all-requires-in-loop-j
-insert_all-requires-in-loop-j c k h =
+insert_all-requires-in-loop-j c =
     let e : c.as_slice-j-items.result.now ≡ (class_at c.args.classes.now.list.items c.args.i).partners =
     partners_at c.args.classes.now.list.items c.args.i c.index.result.now c.as_slice-j-items.result.now c.requires.i c.index.ensures c.as_slice-j-items.ensures in
     let lt : get_or c.as_slice-j-items.result.now c.loop-j.j-index 0 < length c.args.classes.now.list.items =
     partner_lt c.args.classes.now.columns c.args.classes.now.list.items c.args.i c.loop-j.j-index c.as_slice-j-items.result.now c.requires.classes.classes e c.loop-j-test.true in
-    wide_at c.args.classes.now.columns c.args.classes.now.list.items (get_or c.as_slice-j-items.result.now c.loop-j.j-index 0) c.index-in-loop-j.result.now c.as_slice-rows.result.now
+    all_wide _ c.as_slice-rows.result.now (λ k h. wide_at c.args.classes.now.columns c.args.classes.now.list.items (get_or c.as_slice-j-items.result.now c.loop-j.j-index 0) c.index-in-loop-j.result.now c.as_slice-rows.result.now
     c.requires.classes.classes lt c.index-in-loop-j.ensures c.as_slice-rows.ensures k h
-    ∙ sym (c.loop-j.invariant.joint_columns ∙ c.requires.growth.joint_columns ∙ c.requires.columns)
+    ∙ sym (c.loop-j.invariant.joint_columns ∙ c.requires.growth.joint_columns ∙ c.requires.columns))
 
 pub loop-j-preserved : goal.loop-j-preserved
 loop-j-preserved c =
@@ -46,9 +47,9 @@ loop-j-preserved c =
       columns = c.in_ok-insert_all.ensures.columns ∙ c.loop-j.invariant.columns;
       joint_columns = c.in_ok-insert_all-2.ensures.columns ∙ c.loop-j.invariant.joint_columns;
       taken = c.loop-j.invariant.taken;
-      span = all_more c.args.classes.now.list.items (row_sets c.args.self.now.span) (row_sets c.loop-j.self.span) (row_sets c.insert_all.new.span) js c.loop-j.j-index (sets_of c.as_slice-rows.result.now)
+      span = all_more c.args.classes.now.list.items (row_sets c.args.self.now.span) (row_sets c.loop-j.self.span) (row_sets c.insert_all.new.self) js c.loop-j.j-index (sets_of c.as_slice-rows.result.now)
           c.loop-j-test.true c.loop-j.invariant.span rows c.in_ok-insert_all.ensures.span;
-      joint = all_more c.args.classes.now.list.items (row_sets c.args.self.now.joint) (row_sets c.loop-j.self.joint) (row_sets c.insert_all-in-loop-j.new.span) js c.loop-j.j-index (sets_of c.as_slice-rows.result.now)
+      joint = all_more c.args.classes.now.list.items (row_sets c.args.self.now.joint) (row_sets c.loop-j.self.joint) (row_sets c.insert_all-in-loop-j.new.self) js c.loop-j.j-index (sets_of c.as_slice-rows.result.now)
           c.loop-j-test.true c.loop-j.invariant.joint rows c.in_ok-insert_all-2.ensures.span;
     }
 

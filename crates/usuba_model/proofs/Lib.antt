@@ -1,17 +1,17 @@
-mod JudgingLemmas
-mod Relating
-mod Solving
-mod Ordering
-mod Folds
-mod Sizing
-mod WalkLemmas
-mod Valuing
-mod CellLemmas
-mod Reaching
-mod ItemFolds
-mod NodeSizing
-mod Knowing
-mod Stability
-mod NodeOutcome
-mod FileOutcomes
-mod EntryOutcome
+pub mod JudgingLemmas
+pub mod Relating
+pub mod Solving
+pub mod Ordering
+pub mod Folds
+pub mod Sizing
+pub mod WalkLemmas
+pub mod Valuing
+pub mod CellLemmas
+pub mod Reaching
+pub mod ItemFolds
+pub mod NodeSizing
+pub mod Knowing
+pub mod Stability
+pub mod NodeOutcome
+pub mod FileOutcomes
+pub mod EntryOutcome

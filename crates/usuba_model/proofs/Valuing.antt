@@ -24,7 +24,8 @@ known_second : (known a b : List (List ℕ)) → AreKnown known (a ++ b) → Are
 known_second known [] b k = k
 known_second known (name ∷ a) b k = known_second known a b k.1
 
-length_two : {X : Type 0} (f : X → X → X) (xs ys : List X) → length xs ≡ length ys → length (element_by_element f xs ys) ≡ length xs
+-- two values of equally many elements, joined element by element, make as many
+pub length_two : {X : Type 0} (f : X → X → X) (xs ys : List X) → length xs ≡ length ys → length (element_by_element f xs ys) ≡ length xs
 length_two f [] ys e = refl
 length_two f (x ∷ xs) [] e = absurd (omega (arith, e))
 length_two f (x ∷ xs) (y ∷ ys) e = ap suc (length_two f xs ys (omega (arith, e)))

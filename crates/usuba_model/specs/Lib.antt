@@ -10,6 +10,7 @@ pub mod Assignments
 pub mod Operations
 pub mod Judging
 pub mod JudgingLaws
+pub mod Numbers
 pub mod Rounds
 pub mod OutcomeLaw
 pub mod Meaning

@@ -1,0 +1,4 @@
+pub mod Running
+pub mod Premises
+pub mod Numbering
+mod Cutting

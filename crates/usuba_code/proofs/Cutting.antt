@@ -1,4 +1,4 @@
--- Flat lists cut at running ends: what stays and what comes when a list grows or an end is set, and the piece at a number.
+-- Flat lists cut at running ends: what stays and what comes when a list grows or an end is set; the piece at a number.
 use Rattle.std.proofs.Common.{◌≡◌, ◌≤◌, ◌<◌, ◌+◌, ◌-◌, ℕ, zero, suc, List, [], ◌∷◌, ◌++◌, length, take, drop, get_or, slice_range, refl, sym, ap, ap₂, ◌∙◌, subst, length-drop, length-take-le, le_trans, le_refl, IsTrue, ◌↔◌, ◌==◌, eqb-true, eq-eqb, get_or-drop, get_or-take, arith}
 use Rattle.std.proofs.lemmas.List.{drop-append-le, take-append-le, drop_all, length_push, nil_from_length, get_or_default}
 use Rattle.std.proofs.lemmas.Slice.{between_to_end}

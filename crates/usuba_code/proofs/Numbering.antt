@@ -1,5 +1,5 @@
--- The numbers of declared cells: each is below the number of all elements, no two cells have one, and the cells of variables that
--- stand together have the numbers in a row.
+-- The numbers of declared cells: each is below the number of all elements, no two cells have one, and the cells of variables
+-- that stand together have the numbers in a row.
 use Rattle.std.proofs.Common.{◌≡◌, ◌<◌, ◌+◌, ℕ, zero, suc, Bool, true, false, ◌||◌, ◌==◌, nat_lt, if◌then◌else◌, List, [], ◌∷◌, ◌++◌, map, bytes_eq, refl, sym, ap, ◌∙◌, subst, arith, eqb-true, eq-eqb, ltb-true, lt-ltb, append_assoc}
 use Rattle.std.specs.List.{range_with_len}
 use Rattle.std.proofs.lemmas.Bool.{le-ltb}

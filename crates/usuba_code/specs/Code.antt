@@ -61,8 +61,8 @@ coded_at instances k = slice_index_or instances k (record { targets = []; code =
 abbrev pub assigned_at : List Assigned → ℕ → Assigned
 assigned_at targets j = slice_index_or targets j (record { place = record { line = 0; column = 0 }; cells = [] })
 
--- a table that is being built: the instances that are whole, and of the next one the left sides that are whole, the cells of a
--- further left side, and the operations
+-- a table that is being built: the instances that are whole, and of the next one the left sides that are whole, the cells
+-- of a further left side, and the operations
 pub record Built : Type 0 where
   pub done : List Coded
   pub targets : List Assigned

@@ -43,14 +43,14 @@ AnswersSame {V} signatures numbered callees name =
 -- the callee of a name answers arguments that fit its inputs by as many elements as it has outputs
 abbrev pub AnswersAll : {V : Type 0} → List Signature → Callees V → List ℕ → Type 0
 AnswersAll {V} signatures callees name =
-    (elements made : List V) → length elements ≡ (signature_of signatures name).inputs → callees name elements ≡ Some made
-    → length made ≡ (signature_of signatures name).outputs
+    (elements made : List V) → length elements ≡ (signature_of signatures name).inputs
+    → callees name elements ≡ Some made → length made ≡ (signature_of signatures name).outputs
 
 -- the code of an expression adds the value of the expression to a stack, and fails where the expression has no value
 abbrev pub CodeGivesValue : Type 0 → Type 0
 CodeGivesValue V = (operators : Operators V) (callees : Callees V) (environment : Environment V)
-    (numbered_callees : NumberedCallees V) (numbered : NumberedEnvironment V) (signatures : List Signature) (declared : List Decl)
-    (e : Expression)
+    (numbered_callees : NumberedCallees V) (numbered : NumberedEnvironment V) (signatures : List Signature)
+    (declared : List Decl) (e : Expression)
     → HasSizes signatures e
     → Each (HoldsSame declared numbered environment) (cells_read e)
     → Each (AnswersSame signatures numbered_callees callees) (calls_of e)

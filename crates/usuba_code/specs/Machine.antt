@@ -28,16 +28,21 @@ split_last n stack =
 abbrev pub with_last : {V : Type 0} → ℕ → (List V → List V) → List V → Option (List V)
 with_last n f stack = option_map (λ split. split.below ++ f split.last) (split_last n stack)
 
--- the last n elements of a stack, and as many before them, are replaced by what a function makes of both, the earlier ones first
+-- the last n elements of a stack, and as many before them, are replaced by what a function makes of both, the earlier ones
+-- first
 abbrev pub with_last_two : {V : Type 0} → ℕ → (List V → List V → List V) → List V → Option (List V)
-with_last_two n f stack = option_and_then (λ split. with_last n (λ earlier. f earlier split.last) split.below) (split_last n stack)
+with_last_two n f stack =
+    option_and_then (λ split. with_last n (λ earlier. f earlier split.last) split.below) (split_last n stack)
 
 -- the last n elements of a stack are replaced by what a function may make of them
 abbrev pub with_answer : {V : Type 0} → ℕ → (List V → Option (List V)) → List V → Option (List V)
-with_answer n f stack = option_and_then (λ split. option_map (λ made. split.below ++ made) (f split.last)) (split_last n stack)
+with_answer n f stack =
+    option_and_then (λ split. option_map (λ made. split.below ++ made) (f split.last)) (split_last n stack)
 
--- what an operation makes of a stack; none where the stack has too few elements, a cell is not defined or a callee gives nothing
-abbrev pub run_operation : {V : Type 0} → Operators V → NumberedCallees V → NumberedEnvironment V → Operation → List V → Option (List V)
+-- what an operation makes of a stack; none where the stack has too few elements, a cell is not defined or a callee gives
+-- nothing
+abbrev pub run_operation : {V : Type 0} → Operators V → NumberedCallees V → NumberedEnvironment V → Operation → List V
+    → Option (List V)
 run_operation operators callees environment (make.Number value) stack = Some (stack ++ operators.number_of value ∷ [])
 run_operation operators callees environment (make.Cell cell) stack = option_map (λ v. stack ++ v ∷ []) (environment cell)
 run_operation operators callees environment (make.Call callee inputs) stack = with_answer inputs (callees callee) stack
@@ -49,7 +54,9 @@ run_operation operators callees environment (make.Shift kind amount) stack =
 run_operation operators callees environment (make.Refresh k n) stack = with_last n (map (operators.refresh_of k)) stack
 
 -- what code makes of a stack, one operation after another
-abbrev pub run_code : {V : Type 0} → Operators V → NumberedCallees V → NumberedEnvironment V → List Operation → List V → Option (List V)
+abbrev pub run_code : {V : Type 0} → Operators V → NumberedCallees V → NumberedEnvironment V → List Operation → List V
+    → Option (List V)
 run_code operators callees environment [] stack = Some stack
 run_code operators callees environment (operation ∷ code) stack =
-    option_and_then (run_code operators callees environment code) (run_operation operators callees environment operation stack)
+    option_and_then (run_code operators callees environment code)
+    (run_operation operators callees environment operation stack)

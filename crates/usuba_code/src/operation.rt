@@ -1,6 +1,6 @@
 use usuba_trees::{BitOp, ShiftKind};
 
-/// One operation of a stack machine over elements. What it takes is the last of the stack, and what it makes goes there.
+/// One operation of a stack machine over elements. What it takes is the last of the stack, what it makes goes there.
 #[derive(Clone, Copy, Drop)]
 pub enum Operation {
     /// Makes one element of a number.

@@ -21,7 +21,8 @@ pub struct Ends {
     pub code: usize,
 }
 
-/// The equation instances of a node over numbered cells, built piece by piece: of each its left sides, each with its cells, and its operations.
+/// The equation instances of a node over numbered cells, built piece by piece: of each its left sides with their cells,
+/// and its operations.
 #[derive(Drop)]
 pub struct Table {
     lefts: Vec<Left>,
@@ -105,7 +106,10 @@ impl Table {
 
     /// The left side that is being read is whole; its name stands at this place.
     pub fn end_target(&mut self, place: Place) -> Result<(), AllocError>
-        ensures { OnOk result (self.new ≡ record self.old { targets = self.old.targets ++ record { place = place; cells = self.old.cells } ∷ []; cells = [] }) }
+        ensures { OnOk result (self.new ≡ record self.old {
+          targets = self.old.targets ++ record { place = place; cells = self.old.cells } ∷ [];
+          cells = [];
+        }) }
     {
         let end = self.cells.len();
         self.lefts.push(Left { place, end })?;
@@ -122,7 +126,11 @@ impl Table {
 
     /// The instance that is being built is whole. Cells of no whole left side stay for the next one.
     pub fn end_instance(&mut self) -> Result<(), AllocError>
-        ensures { OnOk result (self.new ≡ record self.old { done = self.old.done ++ record { targets = self.old.targets; code = self.old.code } ∷ []; targets = []; code = [] }) }
+        ensures { OnOk result (self.new ≡ record self.old {
+          done = self.old.done ++ record { targets = self.old.targets; code = self.old.code } ∷ [];
+          targets = [];
+          code = [];
+        }) }
     {
         let lefts = self.lefts.len();
         let code = self.code.len();

@@ -1,0 +1,10 @@
+mod FirstSome
+mod Firsts
+mod SameNames
+mod NameSets
+mod Repeating
+mod Trees
+mod PerDefinition
+mod Entering
+mod Counting
+mod Phasing

@@ -1,6 +1,7 @@
 -- The numbers of the pairs i < j among d shares.
-use Rattle.std.proofs.Common.{◌≡◌, ℕ, zero, suc, ◌+◌, ◌-◌, ◌*◌, ◌/◌, ◌<◌, ◌≤◌, refl, sym, ap, ◌∙◌, arith, suc-mul, zero-mul, mul-le-mul_left, div-le_self}
+use Rattle.std.proofs.Common.{◌≡◌, ℕ, zero, suc, ◌+◌, ◌-◌, ◌*◌, ◌/◌, ◌^◌, ◌<◌, ◌≤◌, lit<, refl, sym, ap, ◌∙◌, arith, suc-mul, zero-mul, mul-le-mul_left, div-le_self}
 use Rattle.std.proofs.Math.Nat.{add-mul-div_left}
+use Rattle.std.proofs.lemmas.Nat.{mul-le}
 use Rattle.share_gadgets.specs.Gadgets.{pairs, pair}
 use Rattle.share_gadgets.specs.Private.PairLoop.{row_start}
 
@@ -65,3 +66,27 @@ pair_below d i j h k =
     let e : d - i ≡ suc (d - suc i) = omega arith in
     let p : pairs (d - i) ≡ pairs (d - suc i) + (d - suc i) = ap (λ (n : ℕ). pairs n) e ∙ pairs_step (d - suc i) in
     within (row_start d i) (d - suc i) (pairs (d - i)) (pairs (d - suc i)) (pairs d) (row_rest d i (omega arith)) p (j - i - 1) (omega arith)
+
+-- counts and starts are small
+pub pairs_fit : (d : ℕ) → d ≤ 65535 → pairs d < 2 ^ 64
+pairs_fit d h =
+    let a : pairs d ≤ d * (d - 1) = div-le_self (d * (d - 1)) 2 in
+    let b : d * (d - 1) ≤ 65535 * 65535 = mul-le d (d - 1) 65535 65535 h (omega arith) in
+    let c : 65535 * 65535 < 2 ^ 64 = lit< tt in
+    omega arith
+
+start_below : (s r q n : ℕ) → s ≡ r → r + q ≡ n → n < 2 ^ 64 → s < 2 ^ 64
+start_below s r q n e f h = omega arith
+
+pub start_fits : (d i start : ℕ) → i ≤ d → d ≤ 65535 → start ≡ row_start d i → start < 2 ^ 64
+start_fits d i start h l e = start_below start (row_start d i) (pairs (d - i)) (pairs d) e (row_rest d i h) (pairs_fit d l)
+
+below : (a b n : ℕ) → a ≡ b → b < n → a < n
+below a b n e h = omega arith
+
+-- the place of a pair's word
+pub place_below : (d i j start : ℕ) → i < j → j < d → start ≡ row_start d i → start + (j - i - 1) < pairs d
+place_below d i j start h l e =
+    let p : start + (j - i - 1) ≡ pair d i j = ap (λ (n : ℕ). n + (j - i - 1)) e in
+    let q = pair_below d i j h l in
+    below (start + (j - i - 1)) (pair d i j) (pairs d) p q

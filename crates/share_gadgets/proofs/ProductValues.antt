@@ -6,7 +6,7 @@ use Rattle.std.specs.Int.{bit_at}
 use lib.Bits.{and_zero_l}
 use Rattle.share_gadgets.specs.Sharing.{sharing_value}
 use Rattle.share_gadgets.specs.Gadgets.{pair, xor_without, product_of, cross, product_share, product_shares, pair_word, refreshed_share, refreshed_shares, xor_share, xor_shares}
-use Rattle.share_gadgets.proofs.WordLaws.{xor_assoc, xor_zero_l, xor_zero_r, and_xor, xor_and, xor_self, xor_comm}
+use Rattle.share_gadgets.specs.Private.WordLaws.{xor_assoc, xor_zero_l, xor_zero_r, and_xor, xor_and, xor_self, xor_comm}
 use Rattle.share_gadgets.proofs.ValueLemmas.{total, total_same, total_xor, total_and_left, total_and_right, value_from_function, value_from_list}
 use Rattle.share_gadgets.proofs.PairLoopLemmas.{without_own, without_more}
 

@@ -5,7 +5,7 @@ use Rattle.std.proofs.lemmas.List.FromFn.{map-range_with_len_more}
 use Rattle.std.proofs.lemmas.List.Sums.{fold_push}
 use Rattle.std.specs.List.{range_with_len}
 use Rattle.share_gadgets.specs.Sharing.{sharing_value}
-use Rattle.share_gadgets.specs.Gadgets.{product_of, xor_share}
+use Rattle.share_gadgets.specs.Gadgets.{product_of, xor_share, not_shares, mask_shares}
 
 module _ {X : Type 0} (word : X → ℕ) where
   -- a read of a word, as a number
@@ -18,6 +18,14 @@ module _ {X : Type 0} (word : X → ℕ) where
   push_step f xs ys k x e p h =
       ap (map word) p ∙ map_push word xs x ∙ (λ i. e i ++ h i ∷ []) ∙ sym (map-range_with_len_more f 0 k k (omega arith))
 
+  -- one more share under a mask
+  pub mask_step : (m : ℕ) (xs : List X) (i : ℕ) (x : X) (ys zs : List X) (y : X) → i < length xs → x ≡ get_or xs i x
+      → map word ys ≡ mask_shares m (map word (take i xs)) → zs ≡ ys ++ y ∷ [] → word y ≡ bit_and m (word x)
+      → map word zs ≡ mask_shares m (map word (take (i + 1) xs))
+  mask_step m xs i x ys zs y h e a p w =
+      ap (map word) p ∙ map_push word ys y ∙ (λ k. a k ++ w k ∷ [])
+      ∙ sym (ap (mask_shares m) (map_more word xs i x h ∙ ap (λ (z : X). map word (take i xs) ++ word z ∷ []) (sym e)) ∙ map_push (bit_and m) (map word (take i xs)) (word x))
+
   module _ (xor : X → X → X) (word_xor : (x y : X) → word (xor x y) ≡ bit_xor (word x) (word y)) where
     -- a term that is exclusive-ored into a share
     pub take_words : (xs ys : List X) (k : ℕ) (x term : X) → k < length xs → x ≡ get_or xs k x → ys ≡ set xs k (xor x term)
@@ -25,6 +33,13 @@ module _ {X : Type 0} (word : X → ℕ) where
     take_words xs ys k x term h e p =
         ap (map word) p ∙ map-set word xs k (xor x term)
         ∙ ap (λ (n : ℕ). set (map word xs) k n) (word_xor x term ∙ ap (λ (n : ℕ). bit_xor n (word term)) (read_word xs k x h e))
+
+    -- a word that is exclusive-ored into share 0
+    pub not_words : (xs : List X) (x term y : X) (m : ℕ) → 0 < length xs → x ≡ get_or xs 0 x → y ≡ xor x term → word term ≡ m
+        → map word (set xs 0 y) ≡ not_shares m (map word xs)
+    not_words [] x term y m h e f g = absurd (omega arith)
+    not_words (z ∷ zs) x term y m h e f g =
+        (λ i. (ap word f ∙ word_xor x term ∙ (λ j. bit_xor (word (e j)) (g j))) i ∷ map word zs)
 
     -- a share of an exclusive-or
     pub xor_read : (xs ys : List X) (k : ℕ) (x y : X) → k < length xs → k < length ys → x ≡ get_or xs k x → y ≡ get_or ys k y

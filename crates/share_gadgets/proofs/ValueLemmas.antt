@@ -5,7 +5,7 @@ use Rattle.std.proofs.lemmas.List.Sums.{fold_push}
 use Rattle.std.specs.List.{range_with_len}
 use lib.Bits.{and_zero_l, and_zero_r}
 use Rattle.share_gadgets.specs.Sharing.{sharing_value}
-use Rattle.share_gadgets.proofs.WordLaws.{xor_assoc, xor_comm, xor_zero_l, xor_zero_r, and_xor, xor_and}
+use Rattle.share_gadgets.specs.Private.WordLaws.{xor_assoc, xor_comm, xor_zero_l, xor_zero_r, and_xor, xor_and}
 
 -- the exclusive-or of f k for each k below n
 abbrev pub total : ℕ → (ℕ → ℕ) → ℕ

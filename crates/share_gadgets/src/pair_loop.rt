@@ -38,6 +38,7 @@ pub fn product_row<R: Register>(
     requires count { vec_len shares.old ≡ length a.now }
     requires same { length b.now ≡ length a.now }
     requires row { i < length a.now }
+    requires few { length a.now ≤ 65535 }
     requires words { length words.now ≡ pairs (length a.now) }
     requires start { start ≡ row_start (length a.now) i }
     requires before { map R.word shares.old.items
@@ -58,6 +59,7 @@ pub fn product_row<R: Register>(
 pub fn product_pairs<R: Register>(shares: &mut Vec<R>, a: &[R], b: &[R], words: &[R])
     requires count { vec_len shares.old ≡ length a.now }
     requires same { length b.now ≡ length a.now }
+    requires few { length a.now ≤ 65535 }
     requires words { length words.now ≡ pairs (length a.now) }
     requires before { map R.word shares.old.items
         ≡ product_before (length a.now) (map R.word a.now) (map R.word b.now) (slice_index (map R.word words.now)) 0 1 }
@@ -82,6 +84,7 @@ pub fn refresh_row<R: Register>(
 )
     requires count { vec_len shares.old ≡ length a.now }
     requires row { i < length a.now }
+    requires few { length a.now ≤ 65535 }
     requires words { length words.now ≡ pairs (length a.now) }
     requires start { start ≡ row_start (length a.now) i }
     requires before { map R.word shares.old.items
@@ -100,6 +103,7 @@ pub fn refresh_row<R: Register>(
 // Adds all pairs of a refresh.
 pub fn refresh_pairs<R: Register>(shares: &mut Vec<R>, a: &[R], words: &[R])
     requires count { vec_len shares.old ≡ length a.now }
+    requires few { length a.now ≤ 65535 }
     requires words { length words.now ≡ pairs (length a.now) }
     requires before { map R.word shares.old.items
         ≡ refreshed_before (length a.now) (map R.word a.now) (slice_index (map R.word words.now)) 0 1 }

@@ -1,6 +1,6 @@
 //! The words that sharings are made of.
 ghost use Rattle.std.specs.Prelude.{◌≡◌, ◌⊎◌, ℕ, ◌+◌, ◌-◌, ◌*◌, ◌/◌, ◌%◌, ◌^◌, ◌<◌, ◌≤◌, bit_and, bit_xor};
-ghost use Rattle.share_gadgets.proofs.WordLaws as laws;
+ghost use Rattle.share_gadgets.specs.Private.WordLaws as laws;
 
 /// A word of 8, 16, 32 or 64 bits.
 pub trait Register: Copy {

@@ -1,5 +1,5 @@
 -- The laws of words of a size, over all numbers.
-use Rattle.std.proofs.Common.{◌≡◌, ℕ, zero, suc, ◌+◌, ◌-◌, ◌*◌, ◌/◌, ◌%◌, ◌^◌, ◌<◌, ◌≤◌, min, max, ◌⊎◌, inl, inr, bit_and, bit_or, bit_xor, refl, sym, ap, ◌∙◌, arith}
+use Rattle.std.proofs.Common.{◌≡◌, ℕ, zero, suc, ◌+◌, ◌-◌, ◌*◌, ◌/◌, ◌%◌, ◌^◌, ◌<◌, ◌≤◌, min, max, ◌⊎◌, inl, inr, bit_and, bit_or, bit_xor, refl, sym, ap, ◌∙◌, arith, mod-eq_of_lt}
 use Rattle.std.proofs.lemmas.Nat as nat
 use Rattle.std.proofs.lemmas.Nat.{xor_mod, xor_shr, xor_block, pow_pos}
 use Rattle.std.proofs.lemmas.Nat.Bits.{bit_at_xor, bit_at_and, bit_at-lt, same_from_bits}
@@ -57,16 +57,20 @@ pub same : (x : ℕ) → x ≡ x
 same x = refl
 
 pub mod_below : (w x : ℕ) → x < 2 ^ w → x % 2 ^ w ≡ x
-mod_below w x h = omega arith
+mod_below w x h = mod-eq_of_lt h
 
-pub size_8 : (8 ≡ 8) ⊎ (8 ≡ 16) ⊎ (8 ≡ 32) ⊎ (8 ≡ 64)
+-- one of the four sizes
+abbrev pub IsSize : ℕ → Type 0
+IsSize n = (n ≡ 8) ⊎ (n ≡ 16) ⊎ (n ≡ 32) ⊎ (n ≡ 64)
+
+pub size_8 : IsSize 8
 size_8 = inl refl
 
-pub size_16 : (16 ≡ 8) ⊎ (16 ≡ 16) ⊎ (16 ≡ 32) ⊎ (16 ≡ 64)
+pub size_16 : IsSize 16
 size_16 = inr (inl refl)
 
-pub size_32 : (32 ≡ 8) ⊎ (32 ≡ 16) ⊎ (32 ≡ 32) ⊎ (32 ≡ 64)
+pub size_32 : IsSize 32
 size_32 = inr (inr (inl refl))
 
-pub size_64 : (64 ≡ 8) ⊎ (64 ≡ 16) ⊎ (64 ≡ 32) ⊎ (64 ≡ 64)
+pub size_64 : IsSize 64
 size_64 = inr (inr (inr refl))

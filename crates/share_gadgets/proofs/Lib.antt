@@ -4,3 +4,5 @@ pub mod PairSteps
 pub mod ShareLemmas
 pub mod ValueLemmas
 pub mod ProductValues
+pub mod Shared
+pub mod RunLemmas

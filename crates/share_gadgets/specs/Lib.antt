@@ -1,4 +1,6 @@
 pub mod Sharing
 pub mod Gadgets
+pub mod MaskedRun
+pub mod RunLaw
 pub mod Known
 pub mod Private

@@ -3,11 +3,13 @@
 
 mod gadgets;
 mod known;
+mod laws;
 mod pair_loop;
 mod register;
 mod sharing;
 
 pub use gadgets::{mask, mul, not, refresh, xor};
 pub use known::known_cases;
+pub use laws::{outputs_are_sharings, values_of_masked_run};
 pub use register::Register;
 pub use sharing::{MAX_SHARES, Sharing, limits};

@@ -1,5 +1,5 @@
 -- The loop over the pairs i < j adds to each share its terms in rising order of the other share.
-use Rattle.std.proofs.Common.{◌≡◌, ◌≢◌, ℕ, zero, suc, ◌+◌, ◌-◌, ◌<◌, ◌≤◌, cond, eqb, ltb, List, [], ◌∷◌, length, get_or, set, map, bit_xor, refl, sym, ap, ◌∙◌, ⊎_elim, arith, subst, length-set, get_or-set_same, get_or-set_other}
+use Rattle.std.proofs.Common.{◌≡◌, ◌≢◌, ℕ, suc, ◌<◌, ◌≤◌, eqb, ltb, List, length, get_or, set, map, bit_xor, refl, sym, ap, ◌∙◌, ⊎_elim, arith, subst, length-set, get_or-set_same, get_or-set_other}
 use Rattle.std.proofs.lemmas.Bool.{cond-true, cond-false, lt-ltb, le-ltb, eq-eqb, ne_eqb, cases_eq, cases_order, cases_lt}
 use Rattle.std.proofs.lemmas.List.FromFn.{length-map-range_with_len, get_or-map-range_with_len}
 use Rattle.std.proofs.lemmas.Grind.{same_number_lists}
@@ -117,14 +117,14 @@ module _ (d : ℕ) (first : ℕ → ℕ) (terms : ℕ → ℕ → ℕ) where
       (λ (m : k < i). by_reach i d k d (reached_before d i d k m) ∙ sym (by_reach (suc i) (suc (suc i)) k d (reached_before d (suc i) (suc (suc i)) k (omega arith))))
       (λ (m : i < k). by_reach i d k (suc i) (reached_passed d i d k m l) ∙ sym (next_row i k m)))
       (cases_order k i))
-      where
-        next_row : (i k : ℕ) → i < k → share_before d first terms (suc i) (suc (suc i)) k ≡ xor_without k (first k) (terms k) (suc i)
-        next_row i k m =
-            ⊎_elim
-            (λ (e : k ≡ suc i). by_reach (suc i) (suc (suc i)) k (suc (suc i)) (reached_row d (suc i) (suc (suc i)) k e) ∙ without_own k (first k) (terms k) (suc i) (sym e))
-            (λ (a : k ≡ suc i → ⊥). by_reach (suc i) (suc (suc i)) k (suc i)
-            (reached_due d (suc i) (suc (suc i)) k (apart_le (suc i) k a m) (apart_le (suc i) k a m)))
-            (cases_eq k (suc i))
+    where
+      next_row : (i k : ℕ) → i < k → share_before d first terms (suc i) (suc (suc i)) k ≡ xor_without k (first k) (terms k) (suc i)
+      next_row i k m =
+          ⊎_elim
+          (λ (e : k ≡ suc i). by_reach (suc i) (suc (suc i)) k (suc (suc i)) (reached_row d (suc i) (suc (suc i)) k e) ∙ without_own k (first k) (terms k) (suc i) (sym e))
+          (λ (a : k ≡ suc i → ⊥). by_reach (suc i) (suc (suc i)) k (suc i)
+          (reached_due d (suc i) (suc (suc i)) k (apart_le (suc i) k a m) (apart_le (suc i) k a m)))
+          (cases_eq k (suc i))
 
   -- before the first pair each share is its first term
   pub loop_start : (given : ℕ → ℕ) → ((k : ℕ) → k < d → given k ≡ first k) → map given (range_with_len 0 d) ≡ shares_before d first terms 0 1

@@ -1,9 +1,9 @@
 -- The steps of the loops over the pairs i < j, for products and for refreshes.
-use Rattle.std.proofs.Common.{◌≡◌, ℕ, zero, suc, ◌+◌, ◌-◌, ◌<◌, ◌≤◌, cond, ltb, List, [], ◌∷◌, length, get_or, set, map, bit_and, bit_xor, refl, sym, ap, ◌∙◌, arith, subst}
+use Rattle.std.proofs.Common.{◌≡◌, ℕ, suc, ◌+◌, ◌-◌, ◌<◌, ltb, List, length, get_or, set, map, bit_xor, refl, sym, ap, ◌∙◌, arith}
 use Rattle.std.proofs.lemmas.Bool.{cond-true, cond-false, lt-ltb, le-ltb}
 use Rattle.std.proofs.lemmas.List.FromFn.{fill_by_all}
 use Rattle.std.specs.List.{range_with_len}
-use Rattle.share_gadgets.specs.Gadgets.{pairs, pair, product_of, cross, product_share, product_shares, pair_word, refreshed_share, refreshed_shares}
+use Rattle.share_gadgets.specs.Gadgets.{pair, product_of, cross, product_share, product_shares, pair_word, refreshed_share, refreshed_shares}
 use Rattle.share_gadgets.specs.Private.PairLoop.{row_start, own_product, product_before, refreshed_before}
 use Rattle.share_gadgets.proofs.PairLoopLemmas.{pair_step, row_end, loop_start, loop_end}
 use Rattle.share_gadgets.proofs.PairNumbers.{row_step}

@@ -1,11 +1,11 @@
 -- The value of a product is the and of the values, and the value of a refresh is that of its argument.
-use Rattle.std.proofs.Common.{◌≡◌, ◌≢◌, ℕ, zero, suc, ◌+◌, ◌-◌, ◌%◌, ◌<◌, ◌≤◌, cond, ltb, List, length, get_or, map, bit_and, bit_xor, refl, sym, ap, ◌∙◌, arith}
+use Rattle.std.proofs.Common.{◌≡◌, ℕ, zero, suc, ◌+◌, ◌%◌, ◌<◌, ◌≤◌, ltb, List, length, get_or, bit_and, bit_xor, refl, sym, ap, ◌∙◌, arith}
 use Rattle.std.proofs.lemmas.Bool.{cond-true, cond-false, lt-ltb, le-ltb}
 use Rattle.std.proofs.lemmas.Nat.Bits.{bit_at_xor, same_from_bits}
 use Rattle.std.specs.Int.{bit_at}
 use lib.Bits.{and_zero_l}
 use Rattle.share_gadgets.specs.Sharing.{sharing_value}
-use Rattle.share_gadgets.specs.Gadgets.{pair, xor_without, product_of, cross, product_share, product_shares, pair_word, refreshed_share, refreshed_shares, xor_share, xor_shares}
+use Rattle.share_gadgets.specs.Gadgets.{xor_without, product_of, cross, product_share, product_shares, pair_word, refreshed_share, refreshed_shares, xor_share, xor_shares}
 use Rattle.share_gadgets.specs.Private.WordLaws.{xor_assoc, xor_zero_l, xor_zero_r, and_xor, xor_and, xor_self, xor_comm}
 use Rattle.share_gadgets.proofs.ValueLemmas.{total, total_same, total_xor, total_and_left, total_and_right, value_from_function, value_from_list}
 use Rattle.share_gadgets.proofs.PairLoopLemmas.{without_own, without_more}
@@ -24,7 +24,7 @@ more_shares : (first : ℕ → ℕ) (terms : ℕ → ℕ → ℕ) (n : ℕ)
     ≡ bit_xor (bit_xor (total n (λ k. xor_without k (first k) (terms k) n)) (total n (λ k. terms k n))) (bit_xor (first n) (total n (terms n)))
 more_shares first terms n =
     let others : total n (λ k. xor_without k (first k) (terms k) (suc n))
-        ≡ bit_xor (total n (λ k. xor_without k (first k) (terms k) n)) (total n (λ k. terms k n)) =
+    ≡ bit_xor (total n (λ k. xor_without k (first k) (terms k) n)) (total n (λ k. terms k n)) =
     total_same n (λ k. xor_without k (first k) (terms k) (suc n)) (λ k. bit_xor (xor_without k (first k) (terms k) n) (terms k n))
     (λ k h. without_more k (first k) (terms k) n (λ e. absurd (omega arith)))
     ∙ total_xor n (λ k. xor_without k (first k) (terms k) n) (λ k. terms k n) in

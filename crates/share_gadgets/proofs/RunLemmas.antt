@@ -1,17 +1,17 @@
 -- A masked run goes along with the plain run of the values, equation by equation.
-use Rattle.std.proofs.Common.{◌≡◌, ◌≢◌, ℕ, zero, suc, ◌+◌, ◌-◌, ◌*◌, ◌%◌, ◌^◌, ◌<◌, ◌≤◌, ◌⊎◌, List, [], ◌∷◌, ◌++◌, length, get_or, map, replicate, All, bit_and, bit_xor, refl, sym, ap, ◌∙◌, ⊎_elim, inl, inr, arith, subst, mod-lt}
+use Rattle.std.proofs.Common.{◌≡◌, ℕ, suc, ◌+◌, ◌-◌, ◌^◌, ◌<◌, ◌≤◌, ◌⊎◌, List, [], ◌∷◌, ◌++◌, length, get_or, map, replicate, All, bit_and, bit_xor, refl, sym, ap, ◌∙◌, ⊎_elim, arith, subst, mod-lt}
 use Rattle.std.proofs.lemmas.Bool.{cond-true, cond-false, eq-eqb, ne_eqb, cases_eq, cases_lt}
-use Rattle.std.proofs.lemmas.List.{length-map, get_or-map, get_or_past, length_push, map_push, get_or_push, get_or_append_left, length-append}
+use Rattle.std.proofs.lemmas.List.{length-map, get_or-map, get_or_past, length_push, map_push, get_or_push, get_or_append_left}
 use Rattle.std.proofs.lemmas.Nat.{pow_pos, and_le_r, shr_le}
-use lib.Bits.{and_zero_r, xor_zero_l}
+use lib.Bits.{and_zero_r}
 use Rattle.usuba0.specs.declared.circuit.Gate.{Gate}
 use Rattle.usuba0.specs.declared.circuit.Gate.TheVariants as gate
 use Rattle.usuba0.specs.declared.circuit.Reg.{Reg}
-use Rattle.usuba0.specs.Circuit.{Circuit, IsCore, IsEquation, AreEquations, registers}
+use Rattle.usuba0.specs.Circuit.{Circuit, IsEquation, AreEquations, registers}
 use Rattle.usuba0.specs.PlainRun.{word_at, word_of_equation, run_equations, plain_run}
 use Rattle.usuba0.specs.Term.{ones, word_of_constant, shifted_left, shifted_right, rotated_left, bits_of_width}
 use Rattle.share_gadgets.specs.Sharing.{sharing_value, IsSharing}
-use Rattle.share_gadgets.specs.Gadgets.{pairs, constant_shares, not_shares, mask_shares}
+use Rattle.share_gadgets.specs.Gadgets.{constant_shares, not_shares}
 use Rattle.share_gadgets.specs.MaskedRun.{draws, drawn_word, sharing_at, sharing_of_equation, run_shared, masked_run}
 use Rattle.share_gadgets.specs.RunLaw.{AreWordBits, IsMaskedInput}
 use Rattle.share_gadgets.specs.Private.WordLaws.{and_xor, xor_assoc, xor_comm, xor_zero_r, shl_xor, shr_xor}
@@ -64,7 +64,7 @@ module _ (w B d : ℕ) (fits : w ≤ B) (some : 0 < d) where
     }
     follows (gate.Mask c a) h = record {
       value = map_value (bit_and (word_of_constant w B c)) (sharing_at rows a) (and_zero_r _) (and_xor (word_of_constant w B c))
-      ∙ ap (bit_and (word_of_constant w B c)) (value_at rows a);
+          ∙ ap (bit_and (word_of_constant w B c)) (value_at rows a);
       shared = map_shared B d (bit_and (word_of_constant w B c)) (sharing_at rows a) (λ x l. omega (arith, and_le_r (word_of_constant w B c) x)) (row a h.1);
     }
     follows (gate.And a b) h = record {
@@ -81,7 +81,7 @@ module _ (w B d : ℕ) (fits : w ≤ B) (some : 0 < d) where
     }
     follows (gate.Rotl k a) h = record {
       value = map_value_below B (rotated_left B k) (sharing_at rows a) (rotl_zero B k (omega arith)) (λ x y l m. rotl_xor B k x y (omega arith) l m) (row a h.2).words
-      ∙ ap (rotated_left B k) (value_at rows a);
+          ∙ ap (rotated_left B k) (value_at rows a);
       shared = map_shared B d (rotated_left B k) (sharing_at rows a) (rotl_below B k) (row a h.2);
     }
     follows (gate.Refresh a) h = record {
@@ -112,7 +112,7 @@ module _ (w B d : ℕ) (fits : w ≤ B) (some : 0 < d) where
       let next = runs words (q + draws g) (rows ++ x ∷ []) gs (subst (λ (m : ℕ). AreEquations w m gs) n e.1) (all_push rows x a here.shared) in
       record {
         values = next.values ∙ ap (λ (ws : List ℕ). run_equations w B ws gs)
-        (map_push sharing_value rows x ∙ ap (λ (v : ℕ). map sharing_value rows ++ v ∷ []) here.value);
+            (map_push sharing_value rows x ∙ ap (λ (v : ℕ). map sharing_value rows ++ v ∷ []) here.value);
         shared = next.shared;
         many = next.many ∙ omega arith;
       }

@@ -1,17 +1,16 @@
 -- Each gadget makes a sharing of words of B bits, and shifts go through the value.
-use Rattle.std.proofs.Common.{◌≡◌, ◌≢◌, ℕ, zero, suc, ◌+◌, ◌-◌, ◌*◌, ◌/◌, ◌%◌, ◌^◌, ◌<◌, ◌≤◌, ◌⊎◌, Bool, true, false, ◌&&◌, cond, eqb, ltb as nat_lt, List, [], ◌∷◌, ◌++◌, length, get_or, map, replicate, All, bit_and, bit_or, bit_xor, refl, sym, ap, ◌∙◌, ⊎_elim, inl, inr, arith, subst, mod-lt, zero-mul}
+use Rattle.std.proofs.Common.{◌≡◌, ℕ, zero, suc, ◌+◌, ◌-◌, ◌*◌, ◌/◌, ◌%◌, ◌^◌, ◌<◌, ◌≤◌, ◌&&◌, eqb, ltb as nat_lt, List, [], ◌∷◌, length, get_or, map, replicate, All, bit_or, bit_xor, refl, sym, ap, ◌∙◌, ⊎_elim, arith, subst, mod-lt, zero-mul}
 use Rattle.std.proofs.Math.Nat.{zero-div, zero-mod}
-use Rattle.std.proofs.lemmas.Bool.{cond-true, cond-false, eq-eqb, ne_eqb, cases_eq, cases_lt, cond_both}
-use Rattle.std.proofs.lemmas.List.{length-map, length-replicate, get_or-map, get_or_past, get_or-replicate, length_push, map_push}
+use Rattle.std.proofs.lemmas.Bool.{cases_lt, cond_both}
+use Rattle.std.proofs.lemmas.List.{length-map, length-replicate, get_or-map, get_or_past, get_or-replicate}
 use Rattle.std.proofs.lemmas.List.FromFn.{length-map-range_with_len, get_or-map-range_with_len}
 use Rattle.std.proofs.lemmas.Nat.{xor_lt, or_lt, and_le_r, pow_pos, pow_below, shr_below, shr_le, mod-pow-add, mod_low, shl-shr, or_shifted, xor_mod, xor_shr, xor_block}
 use Rattle.std.specs.List.{range_with_len}
-use lib.Bits.{and_zero_r, xor_shifted}
+use lib.Bits.{xor_shifted}
 use Rattle.usuba0.specs.Term.{ones, word_of_constant, shifted_left, shifted_right, rotated_left}
 use Rattle.share_gadgets.specs.Sharing.{sharing_value, IsSharing}
-use Rattle.share_gadgets.specs.Gadgets.{xor_share, xor_shares, not_shares, mask_shares, constant_shares, pairs, pair, xor_without, product_of, cross, product_share, product_shares, pair_word, refreshed_share, refreshed_shares}
-use Rattle.share_gadgets.specs.Private.WordLaws.{and_xor, xor_assoc, xor_comm, xor_zero_r, shl_xor, shr_xor}
-use Rattle.share_gadgets.proofs.ValueLemmas.{value_cons, value_zeros}
+use Rattle.share_gadgets.specs.Gadgets.{xor_share, xor_shares, not_shares, constant_shares, pair, xor_without, product_of, cross, product_share, product_shares, pair_word, refreshed_share, refreshed_shares}
+use Rattle.share_gadgets.proofs.ValueLemmas.{value_cons}
 
 -- ---- words below 2 ^ B
 pub ones_below : (B : ℕ) → ones B < 2 ^ B
@@ -123,12 +122,12 @@ constant_shared B d c h l = record {
   count = omega (arith, length-replicate {A = ℕ} (d - 1) 0);
   words = below;
 }
-    where
-      below : All (λ x. x < 2 ^ B) (c ∷ replicate (d - 1) 0)
-      below zero e m = l
-      below (suc k) e m =
-          let n : k < d - 1 = omega (arith, length-replicate {A = ℕ} (d - 1) 0) in
-          subst (λ (x : ℕ). x < 2 ^ B) (sym (get_or-replicate (d - 1) k 0 e n)) (pow_pos B)
+  where
+    below : All (λ x. x < 2 ^ B) (c ∷ replicate (d - 1) 0)
+    below zero e m = l
+    below (suc k) e m =
+        let n : k < d - 1 = omega (arith, length-replicate {A = ℕ} (d - 1) 0) in
+        subst (λ (x : ℕ). x < 2 ^ B) (sym (get_or-replicate (d - 1) k 0 e n)) (pow_pos B)
 
 pub not_shared : (B d m : ℕ) (a : List ℕ) → m < 2 ^ B → IsSharing B d a → IsSharing B d (not_shares m a)
 not_shared B d m [] l s = s
@@ -136,10 +135,10 @@ not_shared B d m (x ∷ xs) l s = record {
   count = s.count;
   words = below;
 }
-    where
-      below : All (λ y. y < 2 ^ B) (bit_xor x m ∷ xs)
-      below zero e h = xor_lt B x m (s.words 0 e h) l
-      below (suc k) e h = s.words (suc k) e h
+  where
+    below : All (λ y. y < 2 ^ B) (bit_xor x m ∷ xs)
+    below zero e h = xor_lt B x m (s.words 0 e h) l
+    below (suc k) e h = s.words (suc k) e h
 
 pub map_shared : (B d : ℕ) (f : ℕ → ℕ) (a : List ℕ) → ((x : ℕ) → x < 2 ^ B → f x < 2 ^ B) → IsSharing B d a → IsSharing B d (map f a)
 map_shared B d f a h s = record {
@@ -151,7 +150,7 @@ pub xor_shared : (B d : ℕ) (a b : List ℕ) → IsSharing B d a → IsSharing 
 xor_shared B d a b s t = record {
   count = length-map-range_with_len (xor_share a b) 0 d;
   words = range_below B d (xor_share a b)
-  (λ k. xor_lt B (get_or a k 0) (get_or b k 0) (share_below B a s.words k) (share_below B b t.words k));
+      (λ k. xor_lt B (get_or a k 0) (get_or b k 0) (share_below B a s.words k) (share_below B b t.words k));
 }
 
 product_below : (B d : ℕ) (a b : List ℕ) (i j : ℕ) → IsSharing B d b → product_of a b i j < 2 ^ B
@@ -163,23 +162,23 @@ pub product_shared : (B d : ℕ) (a b : List ℕ) (random : ℕ → ℕ) → ((n
 product_shared B d a b random r s t = record {
   count = length-map-range_with_len (product_share d a b random) 0 d;
   words = range_below B d (product_share d a b random)
-  (λ k. without_below B k (product_of a b k k) (cross d a b random k) d (product_below B d a b k k t) (cross_below k));
+      (λ k. without_below B k (product_of a b k k) (cross d a b random k) d (product_below B d a b k k t) (cross_below k));
 }
-    where
-      cross_below : (i j : ℕ) → cross d a b random i j < 2 ^ B
-      cross_below i j =
-          cond_both (nat_lt i j) (random (pair d i j)) (bit_xor (bit_xor (random (pair d j i)) (product_of a b j i)) (product_of a b i j)) (λ (x : ℕ). x < 2 ^ B)
-          (λ e. r (pair d i j))
-          (λ e. xor_lt B (bit_xor (random (pair d j i)) (product_of a b j i)) (product_of a b i j)
-          (xor_lt B (random (pair d j i)) (product_of a b j i) (r (pair d j i)) (product_below B d a b j i t)) (product_below B d a b i j t))
+  where
+    cross_below : (i j : ℕ) → cross d a b random i j < 2 ^ B
+    cross_below i j =
+        cond_both (nat_lt i j) (random (pair d i j)) (bit_xor (bit_xor (random (pair d j i)) (product_of a b j i)) (product_of a b i j)) (λ (x : ℕ). x < 2 ^ B)
+        (λ e. r (pair d i j))
+        (λ e. xor_lt B (bit_xor (random (pair d j i)) (product_of a b j i)) (product_of a b i j)
+        (xor_lt B (random (pair d j i)) (product_of a b j i) (r (pair d j i)) (product_below B d a b j i t)) (product_below B d a b i j t))
 
 pub refreshed_shared : (B d : ℕ) (a : List ℕ) (random : ℕ → ℕ) → ((n : ℕ) → random n < 2 ^ B) → IsSharing B d a → IsSharing B d (refreshed_shares d a random)
 refreshed_shared B d a random r s = record {
   count = length-map-range_with_len (refreshed_share d a random) 0 d;
   words = range_below B d (refreshed_share d a random)
-  (λ k. without_below B k (get_or a k 0) (pair_word d random k) d (share_below B a s.words k) (word_below k));
+      (λ k. without_below B k (get_or a k 0) (pair_word d random k) d (share_below B a s.words k) (word_below k));
 }
-    where
-      word_below : (i j : ℕ) → pair_word d random i j < 2 ^ B
-      word_below i j =
-          cond_both (nat_lt i j) (random (pair d i j)) (random (pair d j i)) (λ (x : ℕ). x < 2 ^ B) (λ e. r (pair d i j)) (λ e. r (pair d j i))
+  where
+    word_below : (i j : ℕ) → pair_word d random i j < 2 ^ B
+    word_below i j =
+        cond_both (nat_lt i j) (random (pair d i j)) (random (pair d j i)) (λ (x : ℕ). x < 2 ^ B) (λ e. r (pair d i j)) (λ e. r (pair d j i))

@@ -1,5 +1,5 @@
 -- Small cases of the gadgets, worked by hand.
-use Rattle.std.specs.Prelude.{◌≡◌, ℕ, List, [], ◌∷◌, slice_index}
+use Rattle.std.specs.Prelude.{◌≡◌, [], ◌∷◌, slice_index}
 use Rattle.share_gadgets.specs.Sharing.{sharing_value}
 use Rattle.share_gadgets.specs.Gadgets.{pairs, pair, xor_shares, not_shares, mask_shares, constant_shares, product_shares, refreshed_shares}
 

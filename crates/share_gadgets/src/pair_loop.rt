@@ -75,13 +75,7 @@ pub fn product_pairs<R: Register>(shares: &mut Vec<R>, a: &[R], b: &[R], words: 
 }
 
 // Adds the pairs (i, j) of row i of a refresh, whose words begin at `start`.
-pub fn refresh_row<R: Register>(
-    shares: &mut Vec<R>,
-    a: &[R],
-    words: &[R],
-    i: usize,
-    start: usize,
-)
+pub fn refresh_row<R: Register>(shares: &mut Vec<R>, a: &[R], words: &[R], i: usize, start: usize)
     requires count { vec_len shares.old ≡ length a.now }
     requires row { i < length a.now }
     requires few { length a.now ≤ 65535 }

@@ -1,4 +1,4 @@
-use Rattle.std.proofs.Common.{◌≡◌, ℕ, ◌%◌, ◌^◌, ◌<◌, List, length, map, ap, ◌∙◌, arith}
+use Rattle.std.proofs.Common.{◌≡◌, ◌%◌, ◌^◌, length, map, ap, ◌∙◌, arith}
 use Rattle.share_gadgets.specs.Gadgets.{not_shares}
 use Rattle.share_gadgets.proofs.ShareLemmas.{not_words}
 use Rattle.share_gadgets.proofs.gadgets.not.Goals as goal

@@ -1,6 +1,6 @@
-use Rattle.std.proofs.Common.{◌≡◌, ℕ, ◌+◌, ◌-◌, ◌<◌, ◌≤◌, ◌^◌, length, get_or, map, ap, ◌∙◌, arith}
+use Rattle.std.proofs.Common.{◌≡◌, ℕ, ◌+◌, ◌-◌, length, get_or, map, ap, ◌∙◌, arith}
 use Rattle.std.specs.Prelude.{slice_index}
-use Rattle.share_gadgets.specs.Gadgets.{pair, pairs}
+use Rattle.share_gadgets.specs.Gadgets.{pair}
 use Rattle.share_gadgets.specs.Private.PairLoop.{product_before}
 use Rattle.share_gadgets.proofs.PairNumbers.{place_below, pairs_fit}
 use Rattle.share_gadgets.proofs.PairSteps.{product_step, product_row_end}
@@ -33,11 +33,11 @@ loop-j-preserved g c =
     record {
       many = c.take_term-in-loop-j.ensures.len ∙ c.take_term.ensures.len ∙ c.loop-j.invariant.many;
       before = product_step d (map g.R.Register.word c.args.a.now) (map g.R.Register.word c.args.b.now) (slice_index (map g.R.Register.word c.args.words.now)) i j
-      (map g.R.Register.word c.loop-j.shares.items) (map g.R.Register.word c.take_term.new.shares.items) (map g.R.Register.word c.take_term-in-loop-j.new.shares.items)
-      (g.R.Register.word c.index-words-start.result) (g.R.Register.word c.crossed-term.result)
-      (omega arith) c.loop-j-test.true c.loop-j.invariant.before c.take_term.ensures.words c.take_term-in-loop-j.ensures.words
-      (read_word g.R.Register.word c.args.words.now (c.args.start + (j - i - 1)) c.index-words-start.result (omega (arith, below, c.requires.words)) c.index-words-start.is
-      ∙ ap (λ (n : ℕ). get_or (map g.R.Register.word c.args.words.now) n 0) place) c.crossed-term.ensures;
+          (map g.R.Register.word c.loop-j.shares.items) (map g.R.Register.word c.take_term.new.shares.items) (map g.R.Register.word c.take_term-in-loop-j.new.shares.items)
+          (g.R.Register.word c.index-words-start.result) (g.R.Register.word c.crossed-term.result)
+          (omega arith) c.loop-j-test.true c.loop-j.invariant.before c.take_term.ensures.words c.take_term-in-loop-j.ensures.words
+          (read_word g.R.Register.word c.args.words.now (c.args.start + (j - i - 1)) c.index-words-start.result (omega (arith, below, c.requires.words)) c.index-words-start.is
+          ∙ ap (λ (n : ℕ). get_or (map g.R.Register.word c.args.words.now) n 0) place) c.crossed-term.ensures;
     }
 
 pub returns-clause-after : goal.returns-clause-after

@@ -1,4 +1,4 @@
-use Rattle.std.proofs.Common.{◌≡◌, ℕ, ◌+◌, ◌-◌, ◌<◌, ◌≤◌, length, map, ap, ◌∙◌, arith}
+use Rattle.std.proofs.Common.{◌≡◌, ℕ, ◌+◌, ◌-◌, length, map, ap, ◌∙◌, arith}
 use Rattle.std.specs.Prelude.{slice_index}
 use Rattle.share_gadgets.specs.Private.PairLoop.{refreshed_before}
 use Rattle.share_gadgets.proofs.PairNumbers.{start_fits}
@@ -20,7 +20,7 @@ loop-i-preserved g c =
       many = c.refresh_row.ensures.len ∙ c.loop-i.invariant.many;
       place = next_start d c.loop-i.i c.loop-i.start c.loop-i-test.true c.loop-i.invariant.place;
       before = c.refresh_row.ensures.after
-      ∙ ap (λ (n : ℕ). refreshed_before d (map g.R.Register.word c.args.a.now) (slice_index (map g.R.Register.word c.args.words.now)) (c.loop-i.i + 1) n) e;
+          ∙ ap (λ (n : ℕ). refreshed_before d (map g.R.Register.word c.args.a.now) (slice_index (map g.R.Register.word c.args.words.now)) (c.loop-i.i + 1) n) e;
     }
 
 pub returns-clause-after : goal.returns-clause-after

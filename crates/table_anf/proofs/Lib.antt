@@ -1,0 +1,14 @@
+pub mod Xors
+pub mod Containment
+pub mod Moebius
+pub mod Passes
+pub mod Coefficients
+pub mod Polynomials
+pub mod Values
+pub mod Monomials
+pub mod LookUps
+pub mod Extending
+pub mod Products
+pub mod Sums
+pub mod Emitting
+pub mod Accepted

@@ -1,0 +1,3 @@
+-- What models and the contracts of private functions say of the state of the code. No public clause needs these files.
+pub mod Transform
+pub mod Emission

@@ -1,5 +1,6 @@
 -- The first of what a list's elements give, and the steps of a loop that looks for it.
-use Rattle.std.proofs.Common.{◌≡◌, ℕ, suc, ◌+◌, ◌<◌, ◌≤◌, List, [], ◌∷◌, ◌++◌, length, drop, get_or, Option, Some, None, refl, sym, ap, ◌∙◌, add-one}
+use Rattle.std.proofs.Common.{◌≡◌, ℕ, suc, ◌+◌, ◌<◌, ◌≤◌, List, [], ◌∷◌, ◌++◌, length, drop, get_or, Option, Some, None}
+use Rattle.std.proofs.Common.{refl, sym, ap, ◌∙◌, add-one}
 use Rattle.std.proofs.Math.Seq.{drop-cons}
 use Rattle.std.proofs.lemmas.List.{drop_all}
 use Rattle.std.specs.Option.{option_or}
@@ -9,16 +10,19 @@ abbrev pub first_some : {A B : Type 0} → (A → Option B) → List A → Optio
 first_some f [] = None
 first_some f (x ∷ xs) = option_or (f x) (first_some f xs)
 
+-- nothing after something
 pub or-none : {B : Type 0} (a : Option B) → option_or a None ≡ a
 or-none None = refl
 or-none (Some x) = refl
 
+-- the first of three
 pub or-assoc : {B : Type 0} (a b c : Option B) → option_or (option_or a b) c ≡ option_or a (option_or b c)
 or-assoc None b c = refl
 or-assoc (Some x) b c = refl
 
 -- what is left of a list begins with the next element
-pub drop-next : {A : Type 0} (xs : List A) (i : ℕ) (item : A) → i < length xs → item ≡ get_or xs i item → drop i xs ≡ item ∷ drop (i + 1) xs
+pub drop-next : {A : Type 0} (xs : List A) (i : ℕ) (item : A) → i < length xs → item ≡ get_or xs i item
+    → drop i xs ≡ item ∷ drop (i + 1) xs
 drop-next xs i item within is =
     drop-cons xs i item within ∙ ap (λ x. x ∷ drop (suc i) xs) (sym is) ∙ ap (λ k. item ∷ drop k xs) (sym (add-one i))
 
@@ -39,7 +43,8 @@ loop-end f xs i before whole past so_far =
     sym (or-none before) ∙ ap (λ l. option_or before (first_some f l)) (sym (drop_all i xs past)) ∙ so_far
 
 -- two lists one after the other
-pub first_some-append : {A B : Type 0} (f : A → Option B) (a b : List A) → first_some f (a ++ b) ≡ option_or (first_some f a) (first_some f b)
+pub first_some-append : {A B : Type 0} (f : A → Option B) (a b : List A)
+    → first_some f (a ++ b) ≡ option_or (first_some f a) (first_some f b)
 first_some-append f [] b = refl
 first_some-append f (x ∷ a) b =
     ap (option_or (f x)) (first_some-append f a b) ∙ sym (or-assoc (f x) (first_some f a) (first_some f b))

@@ -1,5 +1,6 @@
 -- The first fault of findings, part by part.
-use Rattle.std.proofs.Common.{◌≡◌, ℕ, ◌≤◌, Bool, true, false, List, [], ◌∷◌, ◌++◌, length, drop, map, Option, Some, None, refl, sym, ap, ◌∙◌}
+use Rattle.std.proofs.Common.{◌≡◌, ℕ, ◌≤◌, Bool, true, false, List, [], ◌∷◌, ◌++◌, length, drop, map, Option, Some}
+use Rattle.std.proofs.Common.{None, refl, sym, ap, ◌∙◌}
 use Rattle.std.specs.Prelude.{flat_map, if◌then◌else◌}
 use Rattle.std.specs.Option.{option_or}
 use Rattle.tor_edge.specs.declared.place.Place.{Place}
@@ -17,7 +18,9 @@ or-either None b = refl
 abbrev pub fault_at : FaultKind → Place → Option Fault
 fault_at kind place = Some (record { kind = kind; place = place })
 
-pub first_of-append : (kind : FaultKind) (a b : List Finding) → first_of kind (a ++ b) ≡ option_or (first_of kind a) (first_of kind b)
+-- the first fault of findings one after another
+pub first_of-append : (kind : FaultKind) (a b : List Finding)
+    → first_of kind (a ++ b) ≡ option_or (first_of kind a) (first_of kind b)
 first_of-append kind [] b = refl
 first_of-append kind (finding ∷ a) b = at finding.holds (first_of-append kind a b)
   where
@@ -36,12 +39,14 @@ first_of-cons kind finding b = first_of-append kind (finding ∷ []) b
 pub of-parts : (kind : FaultKind) (whole a b : List Finding) (x y : Option Fault)
     → whole ≡ a ++ b → x ≡ first_of kind a → y ≡ first_of kind b → option_or x y ≡ first_of kind whole
 of-parts kind whole a b x y is first second =
-    ap (λ o. option_or o y) first ∙ ap (option_or (first_of kind a)) second ∙ sym (first_of-append kind a b) ∙ ap (first_of kind) (sym is)
+    ap (λ o. option_or o y) first ∙ ap (option_or (first_of kind a)) second ∙ sym (first_of-append kind a b)
+    ∙ ap (first_of kind) (sym is)
 
 -- the first fault of what an element gives
 abbrev pub fault_in : {A : Type 0} → FaultKind → (A → List Finding) → A → Option Fault
 fault_in kind f x = first_of kind (f x)
 
+-- the first fault of parts is found part by part
 pub first_of-flat_map : (kind : FaultKind) {A : Type 0} (f : A → List Finding) (xs : List A)
     → first_of kind (flat_map f xs) ≡ first_some (fault_in kind f) xs
 first_of-flat_map kind f [] = refl
@@ -49,16 +54,20 @@ first_of-flat_map kind f (x ∷ xs) =
     first_of-append kind (f x) (flat_map f xs) ∙ ap (option_or (first_of kind (f x))) (first_of-flat_map kind f xs)
 
 -- a loop over parts found the first fault of the whole, which begins with what was looked at before the loop
-pub loop-found : (kind : FaultKind) {A : Type 0} (f : A → List Finding) (items xs : List A) (whole a : List Finding) (x before : Option Fault) (i : ℕ)
+pub loop-found : (kind : FaultKind) {A : Type 0} (f : A → List Finding) (items xs : List A) (whole a : List Finding)
+    (x before : Option Fault) (i : ℕ)
     → items ≡ xs → length items ≤ i → whole ≡ a ++ flat_map f xs → x ≡ first_of kind a
     → option_or before (first_some (fault_in kind f) (drop i items)) ≡ option_or x (first_some (fault_in kind f) items)
     → before ≡ first_of kind whole
 loop-found kind f items xs whole a x before i same past is first so_far =
     loop-end (fault_in kind f) items i before (option_or x (first_some (fault_in kind f) items)) past so_far
     ∙ ap (λ l. option_or x (first_some (fault_in kind f) l)) same
-    ∙ of-parts kind whole a (flat_map f xs) x (first_some (fault_in kind f) xs) is first (sym (first_of-flat_map kind f xs))
+    ∙ of-parts kind whole a (flat_map f xs) x (first_some (fault_in kind f) xs) is first
+    (sym (first_of-flat_map kind f xs))
 
-pub flat_map-map : {A B C : Type 0} (g : B → List C) (f : A → B) (xs : List A) → flat_map g (map f xs) ≡ flat_map (λ x. g (f x)) xs
+-- the parts of mapped elements
+pub flat_map-map : {A B C : Type 0} (g : B → List C) (f : A → B) (xs : List A)
+    → flat_map g (map f xs) ≡ flat_map (λ x. g (f x)) xs
 flat_map-map g f [] = refl
 flat_map-map g f (x ∷ xs) = ap (λ l. g (f x) ++ l) (flat_map-map g f xs)
 

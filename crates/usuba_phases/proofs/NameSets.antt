@@ -16,7 +16,8 @@ bytes_eq_comm a b =
       | inl equal ↦ equal ∙ sym ((bytes_eq-Decides b a).1 (sym ((bytes_eq-Decides a b).0 equal)))
       | inr unlike ↦
           (elim (cases_Bool (bytes_eq b a)) [
-            | inl equal ↦ absurd (true≢false (sym ((bytes_eq-Decides a b).1 (sym ((bytes_eq-Decides b a).0 equal))) ∙ unlike))
+            | inl equal ↦ absurd (true≢false
+                (sym ((bytes_eq-Decides a b).1 (sym ((bytes_eq-Decides b a).0 equal))) ∙ unlike))
             | inr too ↦ unlike ∙ sym too
           ])
     ]

@@ -1,5 +1,6 @@
 -- Declared names, noted one after another.
-use Rattle.std.proofs.Common.{◌≡◌, ℕ, ◌+◌, ◌<◌, ◌≤◌, Bool, true, false, ◌||◌, List, [], ◌∷◌, ◌++◌, length, drop, get_or, Option, None, refl, sym, ap, ◌∙◌}
+use Rattle.std.proofs.Common.{◌≡◌, ℕ, ◌+◌, ◌<◌, ◌≤◌, Bool, true, false, ◌||◌, List, [], ◌∷◌, ◌++◌, length, drop, get_or}
+use Rattle.std.proofs.Common.{Option, None, refl, sym, ap, ◌∙◌}
 use Rattle.std.specs.Prelude.{bytes_eq}
 use Rattle.std.specs.Option.{option_or}
 use Rattle.std.proofs.lemmas.List.{map-append, drop_all}
@@ -30,12 +31,14 @@ or-assoc-bool false b c = refl
 -- a name in front of others, or between them
 pub same-swap : (name : List ℕ) (a b : List (List ℕ)) → AreSame (a ++ name ∷ b) (name ∷ a ++ b)
 same-swap name a b = λ other.
-    is_name_among-append a (name ∷ b) other ∙ or-swap (is_name_among a other) (bytes_eq other name) (is_name_among b other)
+    is_name_among-append a (name ∷ b) other
+    ∙ or-swap (is_name_among a other) (bytes_eq other name) (is_name_among b other)
     ∙ ap (λ among. bytes_eq other name || among) (sym (is_name_among-append a b other))
 
 same-prepend : (more a b : List (List ℕ)) → AreSame a b → AreSame (more ++ a) (more ++ b)
 same-prepend more a b same = λ name.
-    is_name_among-append more a name ∙ ap (λ among. is_name_among more name || among) (same name) ∙ sym (is_name_among-append more b name)
+    is_name_among-append more a name ∙ ap (λ among. is_name_among more name || among) (same name)
+    ∙ sym (is_name_among-append more b name)
 
 -- names are noted one by one: what was found so far or is found in the rest, and the names that will be noted
 pub record Noting (start now : List (List ℕ)) (declared rest : List Decl) (fault : Option Fault) : Type 0 where
@@ -43,12 +46,16 @@ pub record Noting (start now : List (List ℕ)) (declared rest : List Decl) (fau
   pub noted : AreSame (names_of rest ++ now) (names_of declared ++ start)
 
 -- nothing was noted yet
-pub noting-starts : (start : List (List ℕ)) (declared : List Decl) (fault : Option Fault) → fault ≡ None → Noting start start declared declared fault
-noting-starts start declared fault none = record { found = ap (λ o. option_or o (declared_fault start declared)) none; noted = λ name. refl }
+pub noting-starts : (start : List (List ℕ)) (declared : List Decl) (fault : Option Fault) → fault ≡ None
+    → Noting start start declared declared fault
+noting-starts start declared fault none =
+    record { found = ap (λ o. option_or o (declared_fault start declared)) none; noted = λ name. refl }
 
 -- one more name is noted
-pub noting-goes_on : (start before after : List (List ℕ)) (declared items : List Decl) (i : ℕ) (d : Decl) (fault found now : Option Fault)
-    → i < length items → d ≡ get_or items i d → found ≡ first_of DuplicateName (repeated before d.name ∷ []) → now ≡ option_or fault found
+pub noting-goes_on : (start before after : List (List ℕ)) (declared items : List Decl) (i : ℕ) (d : Decl)
+    (fault found now : Option Fault)
+    → i < length items → d ≡ get_or items i d → found ≡ first_of DuplicateName (repeated before d.name ∷ [])
+    → now ≡ option_or fault found
     → AreSame after (d.name.text ∷ before)
     → Noting start before declared (drop i items) fault → Noting start after declared (drop (i + 1) items) now
 noting-goes_on start before after declared items i d fault found now within is gives joins added noting =
@@ -59,9 +66,11 @@ noting-goes_on start before after declared items i d fault found now within is g
           ap (λ o. option_or o (declared_fault after rest)) joins ∙ or-assoc fault found (declared_fault after rest)
           ∙ ap (option_or fault)
           (ap (λ o. option_or o (declared_fault after rest)) gives
-          ∙ ap (λ findings. option_or (first_of DuplicateName (repeated before d.name ∷ [])) (first_of DuplicateName findings))
+          ∙ ap (λ findings. option_or (first_of DuplicateName (repeated before d.name ∷ []))
+          (first_of DuplicateName findings))
           (repeated_declarations-same after (d.name.text ∷ before) rest added)
-          ∙ sym (first_of-cons DuplicateName (repeated before d.name) (repeated_declarations (d.name.text ∷ before) rest))
+          ∙ sym (first_of-cons DuplicateName (repeated before d.name)
+          (repeated_declarations (d.name.text ∷ before) rest))
           ∙ ap (declared_fault before) (sym opened))
           ∙ noting.found;
       noted = λ name.
@@ -72,8 +81,10 @@ noting-goes_on start before after declared items i d fault found now within is g
     }
 
 -- all names are noted
-pub noting-ends : (start now : List (List ℕ)) (declared items : List Decl) (i : ℕ) (fault : Option Fault) → length items ≤ i
-    → Noting start now declared (drop i items) fault → (fault ≡ declared_fault start declared) × AreSame now (names_of declared ++ start)
+pub noting-ends : (start now : List (List ℕ)) (declared items : List Decl) (i : ℕ) (fault : Option Fault)
+    → length items ≤ i
+    → Noting start now declared (drop i items) fault
+    → (fault ≡ declared_fault start declared) × AreSame now (names_of declared ++ start)
 noting-ends start now declared items i fault past noting =
     let all : drop i items ≡ [] = drop_all i items past in (
       sym (or-none fault) ∙ ap (λ ds. option_or fault (declared_fault now ds)) (sym all) ∙ noting.found,
@@ -89,7 +100,8 @@ declared_fault-append taken (d ∷ a) b =
     ∙ ap (option_or (first_of DuplicateName (repeated taken d.name ∷ [])))
     (declared_fault-append (d.name.text ∷ taken) a b
     ∙ ap (λ findings. option_or (declared_fault (d.name.text ∷ taken) a) (first_of DuplicateName findings))
-    (repeated_declarations-same (names_of a ++ d.name.text ∷ taken) (d.name.text ∷ names_of a ++ taken) b (same-swap d.name.text (names_of a) taken)))
+    (repeated_declarations-same (names_of a ++ d.name.text ∷ taken) (d.name.text ∷ names_of a ++ taken) b
+    (same-swap d.name.text (names_of a) taken)))
     ∙ sym (or-assoc (first_of DuplicateName (repeated taken d.name ∷ [])) (declared_fault (d.name.text ∷ taken) a)
     (declared_fault (names_of (d ∷ a) ++ taken) b))
     ∙ ap (λ o. option_or o (declared_fault (names_of (d ∷ a) ++ taken) b))
@@ -116,13 +128,16 @@ of-three taken first second third whole a b c x y z is fx first_is fy second_is 
       λ name. three name ∙ ap (λ ds. is_name_among (names_of ds ++ taken) name) (sym is),
     )
   where
-    joined : (taken first second : List (List ℕ)) (a b : List Decl) → AreSame first (names_of a ++ taken) → AreSame second (names_of b ++ first)
+    joined : (taken first second : List (List ℕ)) (a b : List Decl) → AreSame first (names_of a ++ taken)
+        → AreSame second (names_of b ++ first)
         → AreSame second (names_of (a ++ b) ++ taken)
     joined taken first second a b first_is second_is = λ name.
         second_is name ∙ is_name_among-append (names_of b) first name
-        ∙ ap (λ among. is_name_among (names_of b) name || among) (first_is name ∙ is_name_among-append (names_of a) taken name)
+        ∙ ap (λ among. is_name_among (names_of b) name || among)
+        (first_is name ∙ is_name_among-append (names_of a) taken name)
         ∙ or-swap (is_name_among (names_of b) name) (is_name_among (names_of a) name) (is_name_among taken name)
         ∙ or-assoc-bool (is_name_among (names_of a) name) (is_name_among (names_of b) name) (is_name_among taken name)
         ∙ ap (λ among. among || is_name_among taken name) (sym (is_name_among-append (names_of a) (names_of b) name))
-        ∙ ap (λ names. is_name_among names name || is_name_among taken name) (sym (map-append (λ (d : Decl). d.name.text) a b))
+        ∙ ap (λ names. is_name_among names name || is_name_among taken name)
+        (sym (map-append (λ (d : Decl). d.name.text) a b))
         ∙ sym (is_name_among-append (names_of (a ++ b)) taken name)

@@ -24,9 +24,10 @@ early_fault_of asked_width asked_entry file =
     (either (entry_fault (entry_of asked_entry file.defs))
     (early_fault_at (width_of asked_width file.defs) file.defs (entry_of asked_entry file.defs))))
 
--- a file passes the five phases: they have no fault, it has this width, and its entry stands at this place among the
+-- a file passes the five phases: they have no fault, it has this width, and its entry stands at this place among its
 -- definitions
-pub record IsPassed (asked_width : Option ℕ) (asked_entry : Option (List ℕ)) (file : File) (width entry : ℕ) : Type 0 where
+pub record IsPassed (asked_width : Option ℕ) (asked_entry : Option (List ℕ)) (file : File) (width entry : ℕ)
+    : Type 0 where
   pub no_fault : early_fault_of asked_width asked_entry file ≡ None
   pub has_width : width_of asked_width file.defs ≡ Some width
   pub has_entry : entry_of asked_entry file.defs ≡ Some entry
@@ -42,10 +43,11 @@ PassedOrEarly = (asked_width : Option ℕ) (asked_entry : Option (List ℕ)) (fi
     → ((fault : Fault) × (early_fault_of asked_width asked_entry file ≡ Some fault))
     ⊎ ((width : ℕ) × (entry : ℕ) × IsPassed asked_width asked_entry file width entry)
 
--- a fault of the five phases is the first of the file, and the first fault of a file that passes them is that of the later
--- phases
+-- a fault of the five phases is the first of the file, and the first fault of a file that passes them is that of the
+-- later phases
 abbrev pub EarlyFaultsComeFirst : Type 0
 EarlyFaultsComeFirst = (asked_width : Option ℕ) (asked_entry : Option (List ℕ)) (file : File)
-    → ((fault : Fault) → early_fault_of asked_width asked_entry file ≡ Some fault → fault_of asked_width asked_entry file ≡ Some fault)
+    → ((fault : Fault) → early_fault_of asked_width asked_entry file ≡ Some fault
+    → fault_of asked_width asked_entry file ≡ Some fault)
     × ((width entry : ℕ) → IsPassed asked_width asked_entry file width entry
     → fault_of asked_width asked_entry file ≡ later_fault width file.defs entry)

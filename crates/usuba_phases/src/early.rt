@@ -57,7 +57,8 @@ fn after_names(file: &File, asked_width: Option<u32>, asked_entry: Option<&str>)
     }
 }
 
-/// The first fault of the phases up to the fifth, or the width and the entry of the program, for those that are asked for.
+/// The first fault of the phases up to the fifth, or the width and the entry of the program. A width may be asked for,
+/// and the name of an entry.
 pub fn early_fault(
     alloc: Global,
     file: &File,

@@ -19,7 +19,8 @@ fn is_asked_for(definition: &Def, asked: Option<&str>) -> bool
 
 // The place of a definition, where it may be the entry.
 fn entry_at(index: usize, definition: &Def, asked: Option<&str>) -> Option<usize>
-    ensures { result ≡ (if may_be_entry (option_map (λ name. name.now) asked.entry) definition.now then Some index else None) }
+    ensures { result ≡
+        (if may_be_entry (option_map (λ name. name.now) asked.entry) definition.now then Some index else None) }
 {
     if is_asked_for(definition, asked) {
         Some(index)
@@ -28,8 +29,8 @@ fn entry_at(index: usize, definition: &Def, asked: Option<&str>) -> Option<usize
     }
 }
 
-/// The place among the definitions, counted from 0, of the node that is asked for, or of the last node; none where there
-/// is no such node.
+/// The place among the definitions, counted from 0, of the node that is asked for, or of the last node; none where
+/// there is no such node.
 pub fn entry_of(file: &File, asked: Option<&str>) -> Option<usize>
     ensures entry { result ≡ entry_of_definitions (option_map (λ name. name.now) asked.entry) file.now.defs }
     ensures within { IfSome result (λ entry. entry < length file.now.defs) }

@@ -1,7 +1,8 @@
-ghost use Rattle.std.specs.Prelude.{◌≡◌, ℕ, ◌-◌, ◌^◌, ◌≤◌, ◌||◌, nat_le, nat_lt, min, Some, None, if◌then◌else◌};
+ghost use Rattle.std.specs.Prelude.{◌≡◌, ℕ, ◌-◌, ◌^◌, ◌≤◌, ◌||◌, nat_le, nat_lt, min};
 ghost use Rattle.std.specs.List.{list_any};
-ghost use Rattle.usuba_model.specs.Entries.{has_wrong_entries as has_wrong_entries_of, is_bad_table as is_bad_table_of, is_bad_permutation as is_bad_permutation_of, is_no_input, grid_fault};
+ghost use Rattle.usuba_model.specs.Entries.{has_wrong_entries as has_wrong_entries_of, is_no_input, grid_fault};
 ghost use Rattle.usuba_model.specs.Shapes.{elements as elements_of, all_elements as all_elements_of};
+ghost use Rattle.usuba_phases.specs.State.Phases.{table_is_bad, permutation_is_bad, table_fault, permutation_fault};
 ghost use Rattle.usuba_phases.specs.State.Phases.{grid_fault_in};
 
 use usuba_model::{Fault, FaultKind};
@@ -71,7 +72,7 @@ fn is_too_large(inputs: u64, outputs: u64) -> bool
 }
 
 fn is_bad_table(grid: &Grid) -> bool
-    ensures { result ≡ is_bad_table_of (all_elements_of grid.now.inputs) (all_elements_of grid.now.outputs) grid.now.entries }
+    ensures { result ≡ table_is_bad grid.now }
 {
     let inputs = all_elements(grid.inputs.as_slice());
     let outputs = all_elements(grid.outputs.as_slice());
@@ -100,7 +101,7 @@ fn has_outside(entries: &[u64], inputs: u64) -> bool
 }
 
 fn is_bad_permutation(grid: &Grid) -> bool
-    ensures { result ≡ is_bad_permutation_of (all_elements_of grid.now.inputs) (all_elements_of grid.now.outputs) grid.now.entries }
+    ensures { result ≡ permutation_is_bad grid.now }
 {
     let inputs = all_elements(grid.inputs.as_slice());
     let outputs = all_elements(grid.outputs.as_slice());
@@ -112,7 +113,7 @@ fn is_bad_permutation(grid: &Grid) -> bool
 }
 
 fn check_table(grid: &Grid) -> Option<Fault>
-    ensures { result ≡ (if is_bad_table_of (all_elements_of grid.now.inputs) (all_elements_of grid.now.outputs) grid.now.entries then Some (record { kind = FaultKind.BadTable; place = grid.now.name.place }) else None) }
+    ensures { result ≡ table_fault grid.now }
 {
     if is_bad_table(grid) {
         Some(Fault {
@@ -125,7 +126,7 @@ fn check_table(grid: &Grid) -> Option<Fault>
 }
 
 fn check_permutation(grid: &Grid) -> Option<Fault>
-    ensures { result ≡ (if is_bad_permutation_of (all_elements_of grid.now.inputs) (all_elements_of grid.now.outputs) grid.now.entries then Some (record { kind = FaultKind.BadPerm; place = grid.now.name.place }) else None) }
+    ensures { result ≡ permutation_fault grid.now }
 {
     if is_bad_permutation(grid) {
         Some(Fault {

@@ -1,6 +1,8 @@
 ghost use Rattle.std.specs.Prelude.{◌≡◌, [], ◌∷◌, ◌++◌, flat_map, IfOk, OnOk};
 ghost use Rattle.usuba_model.specs.Faults.{first_of};
-ghost use Rattle.usuba_model.specs.Names.{is_name_among, name_of as name_of_definition, names_of, declared_in, repeated, repeated_declarations, repeated_counters, counters_in, repeated_names};
+ghost use Rattle.usuba_model.specs.Names.{is_name_among, name_of as name_of_definition, names_of, declared_in};
+ghost use Rattle.usuba_model.specs.Names.{repeated, repeated_declarations, repeated_counters, counters_in};
+ghost use Rattle.usuba_model.specs.Names.{repeated_names};
 ghost use Rattle.usuba_phases.specs.State.Names.{names_in, AreSame, counters_among, counters_outermost};
 ghost use Rattle.usuba_phases.specs.State.Scopes.{counters_of};
 
@@ -27,7 +29,8 @@ fn fault_if(is_repeated: bool, name: &Word) -> Option<Fault>
 
 // Notes a name, which is at fault where it was noted before.
 fn note<'a>(names: &mut Names<'a>, name: &'a Word) -> Result<Option<Fault>, AllocError>
-    ensures found { IfOk result (λ found. found ≡ first_of FaultKind.DuplicateName (repeated (names_in names.old) name.now ∷ [])) }
+    ensures found { IfOk result (λ found.
+        found ≡ first_of FaultKind.DuplicateName (repeated (names_in names.old) name.now ∷ [])) }
     ensures noted { OnOk result (AreSame (names_in names.new) (name.now.text ∷ names_in names.old)) }
 {
     let is_new = add(names, name.text.as_str())?;
@@ -39,7 +42,8 @@ pub fn note_all<'a>(
     names: &mut Names<'a>,
     declarations: &'a [Decl],
 ) -> Result<Option<Fault>, AllocError>
-    ensures found { IfOk result (λ found. found ≡ first_of FaultKind.DuplicateName (repeated_declarations (names_in names.old) declarations.now)) }
+    ensures found { IfOk result (λ found.
+        found ≡ first_of FaultKind.DuplicateName (repeated_declarations (names_in names.old) declarations.now)) }
     ensures noted { OnOk result (AreSame (names_in names.new) (names_of declarations.now ++ names_in names.old)) }
 {
     let mut fault = None;
@@ -54,8 +58,11 @@ pub fn note_declared<'a>(
     names: &mut Names<'a>,
     definition: &'a Def,
 ) -> Result<Option<Fault>, AllocError>
-    ensures found { IfOk result (λ found. found ≡ first_of FaultKind.DuplicateName (repeated_declarations (names_in names.old) (declared_in definition.now))) }
-    ensures noted { OnOk result (AreSame (names_in names.new) (names_of (declared_in definition.now) ++ names_in names.old)) }
+    ensures found { IfOk result (λ found.
+        found ≡ first_of FaultKind.DuplicateName
+        (repeated_declarations (names_in names.old) (declared_in definition.now))) }
+    ensures noted { OnOk result
+        (AreSame (names_in names.new) (names_of (declared_in definition.now) ++ names_in names.old)) }
 {
     let declared = declarations_of(definition);
     let inputs = note_all(names, declared.inputs)?;
@@ -71,14 +78,16 @@ fn is_taken(name: &str, declared: &Names<'_>, scope: &Scope<'_>) -> bool
 }
 
 fn check_counter(name: &Word, declared: &Names<'_>, scope: &Scope<'_>) -> Option<Fault>
-    ensures { result ≡ first_of FaultKind.DuplicateName (repeated (names_in declared.now ++ counters_of scope.now) name.now ∷ []) }
+    ensures { result ≡ first_of FaultKind.DuplicateName
+        (repeated (names_in declared.now ++ counters_of scope.now) name.now ∷ []) }
 {
     fault_if(is_taken(name.text.as_str(), declared, scope), name)
 }
 
 // The first counter in an item that is declared or is the counter of a loop around it.
 fn repeated_counter(item: &Item, declared: &Names<'_>, scope: &Scope<'_>) -> Option<Fault>
-    ensures { result ≡ first_of FaultKind.DuplicateName (repeated_counters (names_in declared.now) item.now (counters_of scope.now)) }
+    ensures { result ≡ first_of FaultKind.DuplicateName
+        (repeated_counters (names_in declared.now) item.now (counters_of scope.now)) }
 {
     match item {
         Item::Equation(_) => None,
@@ -97,7 +106,8 @@ fn repeated_counter(item: &Item, declared: &Names<'_>, scope: &Scope<'_>) -> Opt
 }
 
 fn repeated_counter_in(items: &[Item], declared: &Names<'_>) -> Option<Fault>
-    ensures { result ≡ first_of FaultKind.DuplicateName (flat_map (counters_outermost (names_in declared.now)) items.now) }
+    ensures { result ≡ first_of FaultKind.DuplicateName
+        (flat_map (counters_outermost (names_in declared.now)) items.now) }
 {
     let mut fault = None;
     for item in items {
@@ -121,8 +131,12 @@ fn repeated_in_definition<'a>(
     names: &mut Names<'a>,
     definition: &'a Def,
 ) -> Result<Option<Fault>, AllocError>
-    ensures found { IfOk result (λ found. found ≡ first_of FaultKind.DuplicateName (repeated (names_in names.old) (name_of_definition definition.now) ∷ repeated_declarations [] (declared_in definition.now) ++ counters_in definition.now)) }
-    ensures noted { OnOk result (AreSame (names_in names.new) ((name_of_definition definition.now).text ∷ names_in names.old)) }
+    ensures found { IfOk result (λ found.
+        found ≡ first_of FaultKind.DuplicateName
+        (repeated (names_in names.old) (name_of_definition definition.now)
+        ∷ repeated_declarations [] (declared_in definition.now) ++ counters_in definition.now)) }
+    ensures noted { OnOk result
+        (AreSame (names_in names.new) ((name_of_definition definition.now).text ∷ names_in names.old)) }
 {
     let own = note(names, name_of(definition))?;
     let mut declared = HashSet::new(alloc);

@@ -1,7 +1,9 @@
-ghost use Rattle.std.specs.Prelude.{◌≡◌, [], ◌∷◌, ◌++◌, not, flat_map, IfOk, OnOk};
+ghost use Rattle.std.specs.Prelude.{◌≡◌, [], ◌∷◌, ◌++◌, not, flat_map, IfOk};
 ghost use Rattle.usuba_model.specs.Faults.{first_of};
-ghost use Rattle.usuba_model.specs.Names.{declared_in, names_of, unknown, unknown_in_index, unknown_in_pick, unknown_in_spot, unknown_in_expression, unknown_in_equation, unknown_in_item, unknown_in_definition, unknown_names};
-ghost use Rattle.usuba_phases.specs.State.Names.{names_in, AreSame, unknown_among, unknown_outermost, unknown_in_move};
+ghost use Rattle.usuba_model.specs.Names.{unknown, unknown_in_index, unknown_in_pick, unknown_in_spot};
+ghost use Rattle.usuba_model.specs.Names.{unknown_in_expression, unknown_in_equation, unknown_in_item};
+ghost use Rattle.usuba_model.specs.Names.{unknown_in_definition, unknown_names};
+ghost use Rattle.usuba_phases.specs.State.Names.{names_in, unknown_among, unknown_outermost, unknown_in_move};
 ghost use Rattle.usuba_phases.specs.State.Scopes.{counters_of};
 
 use crate::definitions::name_of;
@@ -64,7 +66,8 @@ fn check_pick(pick: &Pick, scope: &Scope<'_>) -> Option<Fault>
 }
 
 fn check_spot(spot: &Spot, declared: &Names<'_>, scope: &Scope<'_>) -> Option<Fault>
-    ensures { result ≡ first_of FaultKind.UnknownName (unknown_in_spot (names_in declared.now) (counters_of scope.now) spot.now) }
+    ensures { result ≡ first_of FaultKind.UnknownName
+        (unknown_in_spot (names_in declared.now) (counters_of scope.now) spot.now) }
 {
     let mut fault = check_name(&spot.name, declared);
     for pick in spot.picks.as_slice() {
@@ -89,7 +92,8 @@ fn check_expression(
     declared: &Names<'_>,
     scope: &Scope<'_>,
 ) -> Option<Fault>
-    ensures { result ≡ first_of FaultKind.UnknownName (unknown_in_expression (names_in defined.now) (names_in declared.now) expression.now (counters_of scope.now)) }
+    ensures { result ≡ first_of FaultKind.UnknownName
+        (unknown_in_expression (names_in defined.now) (names_in declared.now) expression.now (counters_of scope.now)) }
 {
     match expression {
         Expr::Number { .. } => None,
@@ -134,7 +138,8 @@ fn check_equation(
     declared: &Names<'_>,
     scope: &Scope<'_>,
 ) -> Option<Fault>
-    ensures { result ≡ first_of FaultKind.UnknownName (unknown_in_equation (names_in defined.now) (names_in declared.now) equation.now (counters_of scope.now)) }
+    ensures { result ≡ first_of FaultKind.UnknownName
+        (unknown_in_equation (names_in defined.now) (names_in declared.now) equation.now (counters_of scope.now)) }
 {
     let mut fault = None;
     for spot in equation.left.as_slice() {
@@ -144,7 +149,8 @@ fn check_equation(
 }
 
 fn check_bounds(low: &Index, high: &Index, scope: &Scope<'_>) -> Option<Fault>
-    ensures { result ≡ first_of FaultKind.UnknownName (unknown_in_index low.now (counters_of scope.now) ++ unknown_in_index high.now (counters_of scope.now)) }
+    ensures { result ≡ first_of FaultKind.UnknownName
+        (unknown_in_index low.now (counters_of scope.now) ++ unknown_in_index high.now (counters_of scope.now)) }
 {
     check_index(low, scope).or(check_index(high, scope))
 }
@@ -155,7 +161,8 @@ fn check_item(
     declared: &Names<'_>,
     scope: &Scope<'_>,
 ) -> Option<Fault>
-    ensures { result ≡ first_of FaultKind.UnknownName (unknown_in_item (names_in defined.now) (names_in declared.now) item.now (counters_of scope.now)) }
+    ensures { result ≡ first_of FaultKind.UnknownName
+        (unknown_in_item (names_in defined.now) (names_in declared.now) item.now (counters_of scope.now)) }
 {
     match item {
         Item::Equation(equation) => check_equation(equation, defined, declared, scope),
@@ -174,7 +181,8 @@ fn check_item(
 }
 
 fn check_items(items: &[Item], defined: &Names<'_>, declared: &Names<'_>) -> Option<Fault>
-    ensures { result ≡ first_of FaultKind.UnknownName (flat_map (unknown_outermost (names_in defined.now) (names_in declared.now)) items.now) }
+    ensures { result ≡ first_of FaultKind.UnknownName
+        (flat_map (unknown_outermost (names_in defined.now) (names_in declared.now)) items.now) }
 {
     let mut fault = None;
     for item in items {
@@ -184,7 +192,8 @@ fn check_items(items: &[Item], defined: &Names<'_>, declared: &Names<'_>) -> Opt
 }
 
 fn check_body(definition: &Def, defined: &Names<'_>, declared: &Names<'_>) -> Option<Fault>
-    ensures { result ≡ first_of FaultKind.UnknownName (unknown_among (names_in defined.now) (names_in declared.now) definition.now) }
+    ensures { result ≡ first_of FaultKind.UnknownName
+        (unknown_among (names_in defined.now) (names_in declared.now) definition.now) }
 {
     match definition {
         Def::Node(node) => check_items(node.items.as_slice(), defined, declared),
@@ -198,7 +207,8 @@ fn check_definition(
     defined: &Names<'_>,
     definition: &Def,
 ) -> Result<Option<Fault>, AllocError>
-    ensures { IfOk result (λ found. found ≡ first_of FaultKind.UnknownName (unknown_in_definition (names_in defined.now) definition.now)) }
+    ensures { IfOk result (λ found.
+        found ≡ first_of FaultKind.UnknownName (unknown_in_definition (names_in defined.now) definition.now)) }
 {
     let mut declared = HashSet::new(alloc);
     let _repeated = note_declared(&mut declared, definition)?;

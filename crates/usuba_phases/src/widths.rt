@@ -1,5 +1,7 @@
 ghost use Rattle.std.specs.Prelude.{◌≡◌, [], ◌∷◌, map, Some, None};
-ghost use Rattle.usuba_model.specs.Entries.{all_declarations, first_width as first_width_of, width_of as width_of_definitions, is_another as is_another_width, mixed, name_place, width_fault};
+ghost use Rattle.usuba_model.specs.Entries.{all_declarations, first_width as first_width_of};
+ghost use Rattle.usuba_model.specs.Entries.{width_of as width_of_definitions, is_another as is_another_width, mixed};
+ghost use Rattle.usuba_model.specs.Entries.{name_place, width_fault};
 ghost use Rattle.usuba_model.specs.Faults.{first_of};
 ghost use Rattle.usuba_model.specs.Names.{declared_in as declared_in_definition};
 ghost use Rattle.usuba_model.specs.Shapes.{base_width as base_width_of};

@@ -5,7 +5,8 @@ use Rattle.usuba_phases.proofs.grids.is_bad_table.Goals as goal
 
 pub returns-then-is_too_large : goal.returns-then-is_too_large
 returns-then-is_too_large c =
-    table-large (all_elements c.args.grid.now.inputs) (all_elements c.args.grid.now.outputs) c.all_elements-inputs.result c.all_elements-outputs.result (2 ^ 64 - 1)
+    table-large (all_elements c.args.grid.now.inputs) (all_elements c.args.grid.now.outputs)
+    c.all_elements-inputs.result c.all_elements-outputs.result (2 ^ 64 - 1)
     c.args.grid.now.entries (omega arith)
     (c.all_elements-inputs.ensures ∙ ap (λ ds. min (all_elements ds) (2 ^ 64 - 1)) c.as_slice.ensures)
     (c.all_elements-outputs.ensures ∙ ap (λ ds. min (all_elements ds) (2 ^ 64 - 1)) c.as_slice-2.ensures)

@@ -13,5 +13,8 @@ decreases-repeated_counter l = goal.size-repeated_counter l
 
 abbrev pub invariant-loop-inner : goal.invariant-loop-inner
 invariant-loop-inner l =
-    option_or l.fault (first_some (fault_in DuplicateName (counters_of_item (names_in l.declared) (counters_of l.inside))) (drop l.inner-index l.inner-items))
-    ≡ option_or l.initial.fault (first_some (fault_in DuplicateName (counters_of_item (names_in l.declared) (counters_of l.inside))) l.inner-items)
+    option_or l.fault
+    (first_some (fault_in DuplicateName (counters_of_item (names_in l.declared) (counters_of l.inside)))
+    (drop l.inner-index l.inner-items))
+    ≡ option_or l.initial.fault (first_some
+    (fault_in DuplicateName (counters_of_item (names_in l.declared) (counters_of l.inside))) l.inner-items)

@@ -8,5 +8,6 @@ use Rattle.usuba_phases.proofs.repeated.repeated_counter_in.Given as goal
 
 abbrev pub invariant-loop-item : goal.invariant-loop-item
 invariant-loop-item l =
-    option_or l.fault (first_some (fault_in DuplicateName (counters_outermost (names_in l.declared))) (drop l.item-index l.items))
+    option_or l.fault
+    (first_some (fault_in DuplicateName (counters_outermost (names_in l.declared))) (drop l.item-index l.items))
     ≡ option_or l.initial.fault (first_some (fault_in DuplicateName (counters_outermost (names_in l.declared))) l.items)

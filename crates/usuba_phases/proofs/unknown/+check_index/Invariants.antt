@@ -12,5 +12,6 @@ decreases-check_index l = goal.size-check_index l
 
 abbrev pub invariant-loop-link : goal.invariant-loop-link
 invariant-loop-link l =
-    option_or l.fault (first_some (fault_in UnknownName (index_operand (counters_of l.scope))) (drop l.link-index l.link-items))
+    option_or l.fault
+    (first_some (fault_in UnknownName (index_operand (counters_of l.scope))) (drop l.link-index l.link-items))
     ≡ option_or l.initial.fault (first_some (fault_in UnknownName (index_operand (counters_of l.scope))) l.link-items)

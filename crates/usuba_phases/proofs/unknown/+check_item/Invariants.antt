@@ -13,5 +13,8 @@ decreases-check_item l = goal.size-check_item l
 
 abbrev pub invariant-loop-inner : goal.invariant-loop-inner
 invariant-loop-inner l =
-    option_or l.fault (first_some (fault_in UnknownName (item_of (names_in l.defined) (names_in l.declared) (counters_of l.inside))) (drop l.inner-index l.inner-items))
-    ≡ option_or l.initial.fault (first_some (fault_in UnknownName (item_of (names_in l.defined) (names_in l.declared) (counters_of l.inside))) l.inner-items)
+    option_or l.fault
+    (first_some (fault_in UnknownName (item_of (names_in l.defined) (names_in l.declared) (counters_of l.inside)))
+    (drop l.inner-index l.inner-items))
+    ≡ option_or l.initial.fault (first_some
+    (fault_in UnknownName (item_of (names_in l.defined) (names_in l.declared) (counters_of l.inside))) l.inner-items)

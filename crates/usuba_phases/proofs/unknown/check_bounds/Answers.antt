@@ -8,5 +8,6 @@ use Rattle.usuba_phases.proofs.unknown.check_bounds.Goals as goal
 pub returns : goal.returns
 returns c =
     c.or.ensures
-    ∙ of-parts UnknownName _ (unknown_in_index c.args.low.now (counters_of c.args.scope.now)) (unknown_in_index c.args.high.now (counters_of c.args.scope.now))
+    ∙ of-parts UnknownName _ (unknown_in_index c.args.low.now (counters_of c.args.scope.now))
+    (unknown_in_index c.args.high.now (counters_of c.args.scope.now))
     c.check_index.result c.check_index-2.result refl c.check_index.ensures c.check_index-2.ensures

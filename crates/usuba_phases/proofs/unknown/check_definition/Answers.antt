@@ -6,5 +6,7 @@ use Rattle.usuba_phases.proofs.unknown.check_definition.Goals as goal
 
 pub returns : goal.returns
 returns c =
-    unknown_own-is (names_in c.args.defined.now) (names_in c.new-declared.result) (names_in c.note_declared.new.names) c.args.definition.now
-    c.check_body.result (ap (map (λ key. key.now)) c.new-declared.ensures.empty) c.in_ok-_repeated.ensures.noted c.check_body.ensures
+    unknown_own-is (names_in c.args.defined.now) (names_in c.new-declared.result) (names_in c.note_declared.new.names)
+    c.args.definition.now
+    c.check_body.result (ap (map (λ key. key.now)) c.new-declared.ensures.empty) c.in_ok-_repeated.ensures.noted
+    c.check_body.ensures

@@ -10,5 +10,8 @@ use Rattle.usuba_phases.proofs.unknown.check_equation.Given as goal
 
 abbrev pub invariant-loop-spot : goal.invariant-loop-spot
 invariant-loop-spot l =
-    option_or l.fault (first_some (fault_in UnknownName (unknown_in_spot (names_in l.declared) (counters_of l.scope))) (drop l.spot-index l.spot-items))
-    ≡ option_or l.initial.fault (first_some (fault_in UnknownName (unknown_in_spot (names_in l.declared) (counters_of l.scope))) l.spot-items)
+    option_or l.fault
+    (first_some (fault_in UnknownName (unknown_in_spot (names_in l.declared) (counters_of l.scope)))
+    (drop l.spot-index l.spot-items))
+    ≡ option_or l.initial.fault (first_some
+    (fault_in UnknownName (unknown_in_spot (names_in l.declared) (counters_of l.scope))) l.spot-items)

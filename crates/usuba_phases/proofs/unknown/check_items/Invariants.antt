@@ -8,5 +8,8 @@ use Rattle.usuba_phases.proofs.unknown.check_items.Given as goal
 
 abbrev pub invariant-loop-item : goal.invariant-loop-item
 invariant-loop-item l =
-    option_or l.fault (first_some (fault_in UnknownName (unknown_outermost (names_in l.defined) (names_in l.declared))) (drop l.item-index l.items))
-    ≡ option_or l.initial.fault (first_some (fault_in UnknownName (unknown_outermost (names_in l.defined) (names_in l.declared))) l.items)
+    option_or l.fault
+    (first_some (fault_in UnknownName (unknown_outermost (names_in l.defined) (names_in l.declared)))
+    (drop l.item-index l.items))
+    ≡ option_or l.initial.fault (first_some
+    (fault_in UnknownName (unknown_outermost (names_in l.defined) (names_in l.declared))) l.items)

@@ -9,5 +9,6 @@ use Rattle.usuba_phases.proofs.unknown.check_moves.Given as goal
 
 abbrev pub invariant-loop-shift : goal.invariant-loop-shift
 invariant-loop-shift l =
-    option_or l.fault (first_some (fault_in UnknownName (unknown_in_move (counters_of l.scope))) (drop l.shift-index l.moves))
+    option_or l.fault
+    (first_some (fault_in UnknownName (unknown_in_move (counters_of l.scope))) (drop l.shift-index l.moves))
     ≡ option_or l.initial.fault (first_some (fault_in UnknownName (unknown_in_move (counters_of l.scope))) l.moves)

@@ -9,5 +9,6 @@ use Rattle.usuba_phases.proofs.unknown.check_spot.Given as goal
 
 abbrev pub invariant-loop-pick : goal.invariant-loop-pick
 invariant-loop-pick l =
-    option_or l.fault (first_some (fault_in UnknownName (unknown_in_pick (counters_of l.scope))) (drop l.pick-index l.pick-items))
+    option_or l.fault
+    (first_some (fault_in UnknownName (unknown_in_pick (counters_of l.scope))) (drop l.pick-index l.pick-items))
     ≡ option_or l.initial.fault (first_some (fault_in UnknownName (unknown_in_pick (counters_of l.scope))) l.pick-items)

@@ -1,5 +1,5 @@
 -- The tables that judging accepts.
-use Rattle.std.proofs.Common.{◌≡◌, ℕ, ◌^◌, Bool, true, false, not, List, eqb, length, eqb-true, ltb-false, true≢false, refl}
+use Rattle.std.proofs.Common.{◌≡◌, ◌^◌, Bool, true, false, not, eqb, length, eqb-true, ltb-false, true≢false, refl}
 use Rattle.std.specs.Prelude.{nat_lt, nat_le, ◌||◌, if◌then◌else◌}
 use Rattle.std.specs.List.{list_any}
 use Rattle.std.proofs.lemmas.Bool.{or_parts, not-false}

@@ -1,10 +1,10 @@
 -- Coefficients as bits of whole words.
-use Rattle.std.proofs.Common.{◌≡◌, ℕ, ◌-◌, ◌^◌, ◌<◌, Bool, true, false, List, get_or, refl, sym, ap, ◌∙◌, subst, ◌/◌, ◌≤◌, bit_and, eqb, eqb-true, eq-eqb, length}
+use Rattle.std.proofs.Common.{◌≡◌, ℕ, ◌-◌, ◌^◌, ◌<◌, Bool, true, false, List, get_or, refl, sym, ap, ◌∙◌, subst, ◌/◌, bit_and, eqb, eqb-true, eq-eqb, length}
 use Rattle.std.specs.Prelude.{if◌then◌else◌}
 use Rattle.std.specs.Int.{bit_at}
 use Rattle.std.proofs.lemmas.List.{get_or_read}
 use Rattle.std.proofs.lemmas.Nat.Bits.{bit_at-zero, bit_at-lt, shr_and_one}
-use Rattle.table_anf.specs.Coefficients.{contains, contained, xor_contained, output_bit, coefficient}
+use Rattle.table_anf.specs.Coefficients.{contains, contained, xor_contained, coefficient}
 use Rattle.table_anf.specs.State.Transform.{transformed}
 use Rattle.table_anf.proofs.Xors.{bit_of_xor_below, xor_below-same}
 use Rattle.table_anf.proofs.Containment.{xor_contained-same}
@@ -52,6 +52,7 @@ coefficient_tested n m words j u word h all read =
     let within : u < length words = subst (λ k. u < k) (sym all) h in
     let there : word ≡ get_or words u 0 = get_or_read words u word within read 0 in
     let same : bit_and (word / 2 ^ (m - 1 - j)) 1 ≡ coefficient n m (transformed n words) j u =
-    shr_and_one word (m - 1 - j) ∙ ap (λ w. bit_at w (m - 1 - j)) there ∙ sym (coefficient-transformed n m words j u h) in
-    (λ e. sym same ∙ eqb-true (bit_and (word / 2 ^ (m - 1 - j)) 1) 1 e,
-    λ e. eq-eqb (bit_and (word / 2 ^ (m - 1 - j)) 1) 1 (same ∙ e))
+    shr_and_one word (m - 1 - j) ∙ ap (λ w. bit_at w (m - 1 - j)) there ∙ sym (coefficient-transformed n m words j u h) in (
+      λ e. sym same ∙ eqb-true (bit_and (word / 2 ^ (m - 1 - j)) 1) 1 e,
+      λ e. eq-eqb (bit_and (word / 2 ^ (m - 1 - j)) 1) 1 (same ∙ e),
+    )

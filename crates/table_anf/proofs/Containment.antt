@@ -1,9 +1,9 @@
 -- Which indexes a monomial contains, by the most significant bit of both.
-use Rattle.std.proofs.Common.{◌≡◌, ℕ, ◌+◌, ◌-◌, ◌*◌, ◌^◌, ◌<◌, ◌≤◌, zero, suc, Bool, true, false, eqb, bit_and, bit_xor, refl, sym, ap, ap₂, ◌∙◌, inl, inr, pow-suc, arith, eq-eqb, ne_eqb}
+use Rattle.std.proofs.Common.{◌≡◌, ℕ, ◌+◌, ◌*◌, ◌^◌, ◌<◌, suc, Bool, true, false, eqb, bit_and, bit_xor, refl, sym, ap, ap₂, ◌∙◌, inl, inr, pow-suc, arith, eq-eqb, ne_eqb}
 use Rattle.std.specs.Prelude.{if◌then◌else◌}
 use lib.Bits.{xor_zero_r}
 use Rattle.std.proofs.lemmas.Bool.{cases_eq}
-use Rattle.std.proofs.lemmas.Nat.{and_block, and_le_l, and_le_r}
+use Rattle.std.proofs.lemmas.Nat.{and_block, and_le_r}
 use Rattle.table_anf.specs.Coefficients.{contains, contained, xor_below, xor_contained}
 use Rattle.table_anf.proofs.Xors.{xor_below-same, xor_below-none, xor_below-xor, xor_below-add}
 

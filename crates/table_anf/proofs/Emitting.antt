@@ -1,15 +1,15 @@
 -- The loop over the output elements of a table.
-use Rattle.std.proofs.Common.{◌≡◌, ℕ, ◌+◌, ◌-◌, ◌*◌, ◌^◌, ◌<◌, ◌≤◌, zero, suc, Bool, true, false, List, [], ◌∷◌, ◌++◌, length, map, get_or, refl, sym, ap, ap₂, ◌∙◌, subst, arith, pow_pos, mul-le-mul_left, Some}
-use Rattle.std.specs.Prelude.{All}
+use Rattle.std.proofs.Common.{◌≡◌, ℕ, ◌+◌, ◌-◌, ◌*◌, ◌^◌, ◌<◌, ◌≤◌, Bool, List, [], ◌∷◌, ◌++◌, length, map, refl, sym, ap, ap₂, ◌∙◌, subst, arith, pow_pos, mul-le-mul_left, Some}
+use Rattle.std.specs.Prelude.{filter}
 use Rattle.std.specs.List.{range_with_len}
 use Rattle.std.specs.Option.{unwrap_or}
 use Rattle.std.proofs.lemmas.List.{length-map}
 use Rattle.std.proofs.lemmas.List.FromFn.{length-map-range_with_len, map-range_with_len_more}
 use Rattle.usuba0.specs.declared.circuit.Reg.{Reg}
-use Rattle.usuba0.specs.Term.{Term, Const, xor_term}
-use Rattle.usuba0.specs.Builder.{Held, Holds, Names, Grows, term_of}
+use Rattle.usuba0.specs.Term.{Term, Const}
+use Rattle.usuba0.specs.Builder.{Held, Names, Grows, term_of}
 use Rattle.table_anf.specs.Extends.{Extends}
-use Rattle.table_anf.specs.TableTerms.{left_fold, monomial, is_present, complemented, table_term, table_terms}
+use Rattle.table_anf.specs.TableTerms.{monomial, is_present, complemented, table_term}
 use Rattle.table_anf.specs.State.Emission.{StandFor, chosen, sum_of}
 use Rattle.table_anf.proofs.Extending.{Extends-both, Extends-more, Extends-grows, length-extends, Names-extends, StandFor-extends, StandFor-push}
 use Rattle.table_anf.proofs.Sums.{chosen-range, left_fold-is}
@@ -32,7 +32,7 @@ output_term-is w n m entries args j e =
     subst P (sym e)
     (ap (complemented w (test 0))
     (ap (λ ts. unwrap_or (sum_of ts) (Const 0)) (chosen-range test (monomial args) 1 (2 ^ k - 1))
-    ∙ left_fold-is (map (monomial args) (Rattle.std.specs.Prelude.filter test (range_with_len 1 (2 ^ k - 1))))))
+    ∙ left_fold-is (map (monomial args) (filter test (range_with_len 1 (2 ^ k - 1))))))
 
 -- what the loop over output elements keeps, after so many of them, where the table has n input and m output elements
 pub record IsEmitting (start : Held) (args : List Reg) (n m : ℕ) (entries : List ℕ) (products : List Reg) (nought : Reg) (count : ℕ) (now : Held)

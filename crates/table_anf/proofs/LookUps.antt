@@ -1,17 +1,17 @@
 -- The value of a table's terms is the look-up at each bit position.
-use Rattle.std.proofs.Common.{◌≡◌, ℕ, ◌+◌, ◌-◌, ◌*◌, ◌/◌, ◌%◌, ◌^◌, ◌<◌, ◌≤◌, zero, suc, Bool, true, false, eqb, List, [], ◌∷◌, length, map, get_or, bit_xor, refl, sym, ap, ap₂, ◌∙◌, subst, inl, inr, arith, pow-suc, pow_pos, mod-eq_of_lt}
-use Rattle.std.specs.Prelude.{All, filter, cond, if◌then◌else◌, slice_index}
+use Rattle.std.proofs.Common.{◌≡◌, ℕ, ◌+◌, ◌-◌, ◌*◌, ◌/◌, ◌%◌, ◌^◌, ◌<◌, ◌≤◌, zero, suc, Bool, true, false, eqb, List, [], ◌∷◌, length, map, get_or, bit_xor, refl, sym, ap, ap₂, ◌∙◌, arith, pow_pos, mod-eq_of_lt}
+use Rattle.std.specs.Prelude.{All, filter, cond, if◌then◌else◌}
 use Rattle.std.specs.Int.{bit_at}
 use Rattle.std.specs.List.{range_with_len}
-use lib.Bits.{xor_comm, xor_zero_l, xor_zero_r}
-use Rattle.std.proofs.lemmas.Bool.{cases_lt}
-use Rattle.std.proofs.lemmas.List.Elements.{All-head, All-tail, All-cons, All-map}
+use lib.Bits.{xor_comm, xor_zero_r}
+use Rattle.std.proofs.lemmas.List.{length-map}
+use Rattle.std.proofs.lemmas.List.Elements.{All-cons, All-map}
 use Rattle.std.proofs.lemmas.Nat.{mod-pow-add}
 use Rattle.std.proofs.lemmas.Nat.Bits.{bit_at-lt, bit_at_ones}
-use Rattle.usuba0.specs.Term.{Term, xor_term, and_term, not_term, ones, bits_of_width}
-use Rattle.usuba_model.specs.Meaning.{number_of_bits, entry_at, word_of_bits, looked_up_word}
+use Rattle.usuba0.specs.Term.{Term, xor_term, ones, bits_of_width}
+use Rattle.usuba_model.specs.Meaning.{number_of_bits, entry_at, word_of_bits}
 use Rattle.table_anf.specs.Coefficients.{xor_below, output_bit, coefficient}
-use Rattle.table_anf.specs.TableLaws.{IsBit, bit_product, monomial_value, polynomial_value, word_of, FitsWidth, IsLookUp, TermsAreLookUps}
+use Rattle.table_anf.specs.TableLaws.{IsBit, bit_product, word_of, FitsWidth, IsLookUp, TermsAreLookUps}
 use Rattle.table_anf.specs.TableTerms.{factors, left_fold, monomial, is_present, monomials_of, complemented, table_term}
 use Rattle.table_anf.proofs.Xors.{bit_of_xor, xor_below-first, xor_below-same}
 use Rattle.table_anf.proofs.Coefficients.{coefficient-lt}
@@ -128,7 +128,7 @@ module _ (w m : ℕ) (entries inputs : List ℕ) (args : List Term) (j : ℕ) (a
   polynomial-bit : (p : ℕ) → bit_xor (later p) (given 0) ≡ output_bit m entries j (number_of_bits 0 (bits p))
   polynomial-bit p =
       let mono : ℕ → ℕ → ℕ = λ k u. coefficient k m entries j u * bit_product (factors (bits p) u) in
-      let long : length (bits p) ≡ n = Rattle.std.proofs.lemmas.List.length-map args (bit_of w inputs p) in
+      let long : length (bits p) ≡ n = length-map args (bit_of w inputs p) in
       let first : mono n 0 ≡ given 0 = ap (λ fs. given 0 * bit_product fs) (factors-none (bits p)) ∙ (let e : given 0 * 1 ≡ given 0 = omega arith in e) in
       xor_comm (later p) (given 0)
       ∙ ap (λ x. bit_xor x (later p)) (sym first)

@@ -1,5 +1,5 @@
 -- The exclusive-or over all contained indexes, taken twice, is what was given.
-use Rattle.std.proofs.Common.{◌≡◌, ℕ, ◌+◌, ◌-◌, ◌^◌, ◌<◌, ◌≤◌, zero, suc, bit_xor, refl, sym, ap, ap₂, ◌∙◌, subst, inl, inr, pow-suc, arith}
+use Rattle.std.proofs.Common.{◌≡◌, ℕ, ◌+◌, ◌-◌, ◌^◌, ◌<◌, zero, suc, bit_xor, ap₂, ◌∙◌, subst, inl, inr, pow-suc, arith}
 use lib.Bits.{xor_zero_l}
 use Rattle.std.proofs.lemmas.Bool.{cases_lt}
 use Rattle.table_anf.specs.Coefficients.{xor_contained}

@@ -1,5 +1,5 @@
 -- The bits of the values of monomials and of their sums.
-use Rattle.std.proofs.Common.{◌≡◌, ℕ, ◌+◌, ◌-◌, ◌*◌, ◌^◌, ◌<◌, ◌≤◌, zero, suc, min, Bool, true, false, eqb, List, [], ◌∷◌, length, map, bit_and, bit_xor, refl, sym, ap, ap₂, ◌∙◌, subst, inl, inr, arith, pow-suc, pow_pos}
+use Rattle.std.proofs.Common.{◌≡◌, ℕ, ◌+◌, ◌-◌, ◌*◌, ◌^◌, ◌<◌, zero, suc, min, Bool, true, false, eqb, List, [], ◌∷◌, length, map, bit_and, bit_xor, refl, sym, ap, ap₂, ◌∙◌, inl, inr, arith, pow-suc, pow_pos}
 use Rattle.std.specs.Prelude.{All, fold, filter, cond, if◌then◌else◌}
 use Rattle.std.specs.Int.{bit_at}
 use Rattle.std.specs.List.{range_with_len}
@@ -7,13 +7,13 @@ use lib.Bits.{xor_assoc, xor_zero_l, xor_zero_r}
 use Rattle.std.proofs.lemmas.Bool.{cases_lt}
 use Rattle.std.proofs.lemmas.List.Elements.{All-head, All-tail, All-cons}
 use Rattle.std.proofs.lemmas.Nat.Bits.{bit_at_and, bit_at-lt, bit_at-zero}
-use Rattle.usuba0.specs.Term.{Term, Const, xor_term, and_term, bits_of_width}
+use Rattle.usuba0.specs.Term.{Term, xor_term, and_term}
 use Rattle.table_anf.specs.Coefficients.{xor_below}
 use Rattle.table_anf.specs.TableLaws.{word_of, FitsWidth, bit_product}
-use Rattle.table_anf.specs.TableTerms.{factors, left_fold, monomial}
+use Rattle.table_anf.specs.TableTerms.{factors, left_fold}
 use Rattle.table_anf.proofs.Xors.{bit_of_xor, xor_below-first, xor_below-same}
 use Rattle.table_anf.proofs.Polynomials.{factors-with, factors-without}
-use Rattle.table_anf.proofs.Values.{Makes, const_makes, and_term-makes, xor_term-makes, constant_word-zero}
+use Rattle.table_anf.proofs.Values.{const_makes, and_term-makes, xor_term-makes, constant_word-zero}
 
 min_times : (x y : ℕ) → x < 2 → y < 2 → min x y ≡ x * y
 min_times zero y h k = omega arith

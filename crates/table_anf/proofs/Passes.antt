@@ -1,10 +1,9 @@
 -- The passes over a table in place make the exclusive-ors over contained indexes.
-use Rattle.std.proofs.Common.{◌≡◌, ℕ, ◌+◌, ◌-◌, ◌*◌, ◌/◌, ◌%◌, ◌^◌, ◌<◌, ◌≤◌, zero, suc, eqb, bit_and, bit_xor, refl, sym, ap, ap₂, ◌∙◌, subst, inl, inr, pow-suc, arith, List, length, get_or, map, set, pow_pos, below_more, add-one}
+use Rattle.std.proofs.Common.{◌≡◌, ℕ, ◌+◌, ◌-◌, ◌*◌, ◌/◌, ◌%◌, ◌^◌, ◌<◌, ◌≤◌, zero, suc, eqb, bit_and, bit_xor, refl, sym, ap, ap₂, ◌∙◌, subst, inl, inr, pow-suc, arith, List, length, get_or, set, pow_pos, below_more, add-one}
 use Rattle.std.specs.Prelude.{if◌then◌else◌}
 use Rattle.std.specs.Int.{bit_at}
-use Rattle.std.specs.List.{range_with_len}
-use lib.Bits.{xor_comm, xor_zero_l}
-use Rattle.std.proofs.lemmas.Bool.{cases_lt, eq-eqb, ne_eqb}
+use lib.Bits.{xor_comm}
+use Rattle.std.proofs.lemmas.Bool.{cases_lt}
 use Rattle.std.proofs.lemmas.List.{get_or-set_same, get_or-set_other}
 use Rattle.std.proofs.lemmas.List.FromFn.{fill_by_all, get_or-map-range_with_len}
 use Rattle.std.proofs.lemmas.Nat.{mod_below, one_shl, shr_split}

@@ -1,13 +1,13 @@
 -- The polynomials of a table are the table.
-use Rattle.std.proofs.Common.{◌≡◌, ℕ, ◌+◌, ◌-◌, ◌*◌, ◌^◌, ◌<◌, ◌≤◌, zero, suc, Bool, true, false, eqb, List, [], ◌∷◌, length, refl, sym, ap, ap₂, ◌∙◌, subst, inl, inr, pow-suc, arith}
+use Rattle.std.proofs.Common.{◌≡◌, ℕ, ◌+◌, ◌-◌, ◌*◌, ◌^◌, ◌<◌, ◌≤◌, zero, suc, Bool, true, false, eqb, List, [], ◌∷◌, length, refl, sym, ap, ap₂, ◌∙◌, subst, inl, inr, pow-suc, pow_pos, arith}
 use Rattle.std.specs.Prelude.{All, if◌then◌else◌}
 use Rattle.std.specs.Int.{bit_at}
 use Rattle.std.proofs.lemmas.Bool.{cases_lt}
 use Rattle.std.proofs.lemmas.List.Elements.{All-head, All-tail}
-use Rattle.std.proofs.lemmas.Nat.Bits.{bit_at_above, bit_at_cat_high, bit_at_cat_low, bit_at_lowest}
+use Rattle.std.proofs.lemmas.Nat.Bits.{bit_at_above, bit_at_cat_high, bit_at_cat_low}
 use Rattle.usuba_model.specs.Meaning.{number_of_bits}
-use Rattle.table_anf.specs.Coefficients.{contains, contained, xor_contained, output_bit, coefficient}
-use Rattle.table_anf.specs.TableLaws.{IsBit, bit_product, monomial_value, polynomial_value, PolynomialIsTable}
+use Rattle.table_anf.specs.Coefficients.{contains, contained, output_bit, coefficient}
+use Rattle.table_anf.specs.TableLaws.{IsBit, bit_product, monomial_value, PolynomialIsTable}
 use Rattle.table_anf.specs.TableTerms.{factors}
 use Rattle.table_anf.proofs.Xors.{xor_below-same}
 use Rattle.table_anf.proofs.Containment.{contains-low, contains-both, contains-high}
@@ -23,7 +23,7 @@ number_of_bits-after before (b ∷ bits) =
     let whole = number_of_bits-after (before * 2 + b) bits in
     let alone = number_of_bits-after (0 * 2 + b) bits in
     let e : (before * 2 + b) * 2 ^ length bits + number_of_bits 0 bits
-        ≡ before * 2 ^ suc (length bits) + ((0 * 2 + b) * 2 ^ length bits + number_of_bits 0 bits) = omega arith in
+    ≡ before * 2 ^ suc (length bits) + ((0 * 2 + b) * 2 ^ length bits + number_of_bits 0 bits) = omega arith in
     whole ∙ e ∙ ap (λ x. before * 2 ^ suc (length bits) + x) (sym alone)
 
 -- the first bit is the most significant one
@@ -82,7 +82,7 @@ factors-with x elements v h =
 -- no bit, no factor
 pub factors-none : {V : Type 0} (elements : List V) → factors elements 0 ≡ []
 factors-none [] = refl
-factors-none (x ∷ elements) = factors-without x elements 0 (Rattle.std.proofs.Common.pow_pos (length elements)) ∙ factors-none elements
+factors-none (x ∷ elements) = factors-without x elements 0 (pow_pos (length elements)) ∙ factors-none elements
 
 abbrev one_where : Bool → ℕ
 one_where b = if b then 1 else 0

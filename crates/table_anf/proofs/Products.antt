@@ -1,6 +1,6 @@
 -- The monomials over some arguments, made from those over one argument less.
 use Rattle.std.proofs.Common.{◌≡◌, ℕ, ◌+◌, ◌-◌, ◌*◌, ◌/◌, ◌%◌, ◌^◌, ◌<◌, ◌≤◌, zero, suc, Bool, true, false, eqb, List, [], ◌∷◌, ◌++◌, length, map, get_or, take, refl, sym, ap, ap₂, ◌∙◌, subst, arith, append_assoc, length-append, pow-suc, pow_pos, pow_mono, Some}
-use Rattle.std.specs.Prelude.{All, fold, flat_map, if◌then◌else◌}
+use Rattle.std.specs.Prelude.{All, flat_map, if◌then◌else◌}
 use Rattle.std.specs.Int.{bit_at}
 use Rattle.std.specs.List.{range_with_len}
 use Rattle.std.proofs.lemmas.List.{append-nil, take_all, take_more, length-take-le, get_or-map, length-map}
@@ -9,7 +9,7 @@ use Rattle.std.proofs.lemmas.List.FromFn.{length-map-range_with_len}
 use Rattle.std.proofs.lemmas.List.Sums.{fold_push}
 use Rattle.std.proofs.lemmas.Nat.Bits.{bit_at_lowest, bit_at-suc}
 use Rattle.usuba0.specs.declared.circuit.Reg.{Reg}
-use Rattle.usuba0.specs.Term.{Term, Input, Const, and_term}
+use Rattle.usuba0.specs.Term.{Term, Const, and_term}
 use Rattle.usuba0.specs.Builder.{Held, Holds, Names, Grows, term_of}
 use Rattle.table_anf.specs.Extends.{Extends}
 use Rattle.table_anf.specs.TableTerms.{factors, left_fold, monomial}

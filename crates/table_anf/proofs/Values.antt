@@ -1,8 +1,8 @@
 -- The values of terms that are made by the rules: those of the operations, where the operands fit the width.
-use Rattle.std.proofs.Common.{◌≡◌, ℕ, ◌+◌, ◌-◌, ◌^◌, ◌<◌, ◌≤◌, zero, suc, Bool, true, false, eqb, List, Option, Some, None, IfSome, bit_and, bit_xor, refl, sym, ap, ap₂, ◌∙◌, subst, arith, eqb-true, pow_pos}
+use Rattle.std.proofs.Common.{◌≡◌, ℕ, ◌^◌, ◌<◌, zero, suc, Bool, true, false, eqb, List, Option, Some, None, IfSome, bit_and, bit_xor, refl, sym, ap, ap₂, ◌∙◌, subst, arith, eqb-true, pow_pos}
 use Rattle.std.specs.Prelude.{if◌then◌else◌, ◌&&◌}
-use Rattle.std.proofs.lemmas.Nat.{and_le_l, and_le_r, and_comm, xor_lt}
-use Rattle.usuba0.specs.Term.{Term, Input, Const, Xor, Not, Mask, And, Shl, Shr, Rotl, Refresh, constant, ones, folded_two, folded_one, and_by, xor_term, and_term, not_term, word_of_constant, bits_of_width, value}
+use Rattle.std.proofs.lemmas.Nat.{and_le_l, and_comm, xor_lt}
+use Rattle.usuba0.specs.Term.{Term, Input, Const, Xor, Not, Mask, And, Shl, Shr, Rotl, Refresh, constant, ones, folded_two, folded_one, and_by, xor_term, and_term, not_term, word_of_constant, bits_of_width}
 use Rattle.table_anf.specs.TableLaws.{word_of, FitsWidth}
 
 -- ---- constants as words

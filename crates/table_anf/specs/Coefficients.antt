@@ -1,5 +1,5 @@
 -- A table as contracts see it, and the coefficients of its normal form.
-use Rattle.std.specs.Prelude.{◌≡◌, ℕ, zero, suc, ◌-◌, ◌^◌, Bool, ◌==◌, List, refl, if◌then◌else◌, slice_index, bit_and, bit_xor}
+use Rattle.std.specs.Prelude.{ℕ, zero, suc, ◌-◌, ◌^◌, Bool, ◌==◌, List, refl, if◌then◌else◌, slice_index, bit_and, bit_xor}
 use Rattle.std.specs.Coded.{Coded, code_by, coded×, coded_ℕ, coded_list}
 use Rattle.std.specs.Int.{bit_at}
 

@@ -94,7 +94,7 @@ fn output_of(
     requires room { length builder.old.terms + 2 ^ anf.now.inputs ≤ MAX_TERMS }
     ensures term { let test = is_present anf.now.inputs anf.now.outputs anf.now.entries output in
         IfOk result (λ r. Names builder.new r (complemented builder.old.width (test 0)
-            (unwrap_or (sum_of_terms (chosen test 1 (map (term_of builder.old) products.now))) (Const 0)))) }
+        (unwrap_or (sum_of_terms (chosen test 1 (map (term_of builder.old) products.now))) (Const 0)))) }
     ensures extends { Extends (2 ^ anf.now.inputs) builder.old builder.new }
 {
     let sum = sum_of(anf, output, products, builder)?.unwrap_or(zero);
@@ -119,7 +119,7 @@ fn sum_of(
     ensures held { IfOk result (λ sum. IfSome sum (Holds builder.new)) }
     ensures terms { let test = is_present anf.now.inputs anf.now.outputs anf.now.entries output in
         IfOk result (λ sum. option_map (term_of builder.new) sum
-            ≡ sum_of_terms (chosen test 1 (map (term_of builder.old) products.now))) }
+        ≡ sum_of_terms (chosen test 1 (map (term_of builder.old) products.now))) }
     ensures extends { Extends (length products.now) builder.old builder.new }
 {
     let mut sum = None;
@@ -132,11 +132,7 @@ fn sum_of(
 }
 
 // A monomial added to a sum.
-fn added(
-    sum: Option<Reg>,
-    product: Reg,
-    builder: &mut CoreBuilder,
-) -> Result<Reg, AllocError>
+fn added(sum: Option<Reg>, product: Reg, builder: &mut CoreBuilder) -> Result<Reg, AllocError>
     requires sum { IfSome sum (Holds builder.old) }
     requires product { Holds builder.old product }
     requires room { length builder.old.terms < MAX_TERMS }

@@ -23,7 +23,10 @@ impl Model for NormalForm {
     ghost coded = { table_code };
 
     ghost view = { λ f. record {
-        inputs = f.inputs; outputs = f.outputs; entries = transformed f.inputs f.words.items } };
+      inputs = f.inputs;
+      outputs = f.outputs;
+      entries = transformed f.inputs f.words.items;
+    } };
 
     ghost invariant = { λ f. AreFields f.inputs f.outputs f.words.items };
 }

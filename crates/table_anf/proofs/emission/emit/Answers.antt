@@ -1,4 +1,4 @@
-use Rattle.std.proofs.Common.{◌≡◌, ◌+◌, length, ap, ◌∙◌, sym}
+use Rattle.std.proofs.Common.{◌+◌, length, ap, ◌∙◌, sym}
 use Rattle.usuba0.specs.declared.limit.TheConstants.{MAX_TERMS}
 use Rattle.table_anf.proofs.Emitting.{constant_room, emitting_starts, emitting_count, emitting_goes_on}
 use Rattle.table_anf.proofs.emission.emit.Goals as goal

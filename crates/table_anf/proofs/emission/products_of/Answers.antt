@@ -1,7 +1,6 @@
-use Rattle.std.proofs.Common.{◌≡◌, ◌≤◌, ◌+◌, length, ap, subst, arith, get_or, refl, ℕ}
+use Rattle.std.proofs.Common.{◌≤◌, ◌+◌, length, get_or, refl}
 use Rattle.usuba0.specs.declared.circuit.Reg.{Reg}
 use Rattle.usuba0.specs.declared.limit.TheConstants.{MAX_TERMS}
-use Rattle.table_anf.specs.Extends.{Extends}
 use Rattle.table_anf.proofs.Products.{over_room, over_goes_on, over_next_extends}
 use Rattle.table_anf.proofs.emission.products_of.Goals as goal
 

@@ -1,4 +1,4 @@
-use Rattle.std.proofs.Common.{◌≡◌, ◌+◌, ℕ, true, false, Some, refl, sym, ap, ◌∙◌, arith, add_comm, eqb, eq-eqb, ne_eqb, get_or, true≢false}
+use Rattle.std.proofs.Common.{◌≡◌, ◌+◌, ℕ, refl, sym, ap, ◌∙◌, arith, eq-eqb, ne_eqb, get_or, true≢false}
 use Rattle.usuba0.specs.declared.circuit.Reg.{Reg}
 use Rattle.table_anf.specs.Coefficients.{coefficient}
 use Rattle.table_anf.specs.TableTerms.{is_present}

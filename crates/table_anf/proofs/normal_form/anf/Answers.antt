@@ -1,4 +1,4 @@
-use Rattle.std.proofs.Common.{◌≡◌, ◌+◌, ◌^◌, ◌++◌, ℕ, List, get_or, length, take, drop, ap, ◌∙◌, take_at, arith}
+use Rattle.std.proofs.Common.{◌≡◌, ◌++◌, ℕ, List, get_or, length, take, drop, ap, ◌∙◌, take_at, arith}
 use Rattle.std.specs.List.{slice_index}
 use Rattle.table_anf.specs.Coefficients.{Table}
 use Rattle.table_anf.specs.State.Transform.{transformed, with_pass}

@@ -1,7 +1,8 @@
 -- Numbers below a bound, raised, and in a row.
 use Rattle.std.proofs.Common.{◌≡◌, refl, sym, ap, ◌∙◌, ℕ, zero, suc, ◌+◌, ◌*◌, ◌<◌, ◌≤◌, List, [], ◌∷◌, ◌++◌, ◌-◌, reverse, length, take, drop, set, get_or, slice_range, arith, add-mul, zero-mul, suc-mul, length-append, length-take, length-drop}
+use mathlib.Core.List.{reverse_aux}
 use Rattle.std.specs.List.{range_with_len}
-use Rattle.std.proofs.lemmas.List.{append_assoc, append-nil, map-append, reverse-append, take_at, drop_at, take_all, drop_all, take-append-le, drop-append-le, get_or_at, set_at, drop_more, take_more}
+use Rattle.std.proofs.lemmas.List.{drop-drop, get_or-take, get_or-drop, take-append-drop, append_assoc, append-nil, map-append, take_at, drop_at, take_all, drop_all, take-append-le, drop-append-le, get_or_at, set_at, drop_more}
 use Rattle.std.proofs.lemmas.List.Edits.{between_more}
 use Rattle.usuba_cells.specs.State.Sums.{AllBelow}
 use Rattle.usuba_cells.specs.State.Copies.{raised, copies}
@@ -35,7 +36,7 @@ below-range first (suc count) n fits = (omega (arith, fits), below-range (first 
 pub below-reverse : (n : ℕ) (xs : List ℕ) → AllBelow n xs → AllBelow n (reverse xs)
 below-reverse n xs below = onto xs [] below tt
   where
-    onto : (xs ys : List ℕ) → AllBelow n xs → AllBelow n ys → AllBelow n (mathlib.Core.List.reverse_aux xs ys)
+    onto : (xs ys : List ℕ) → AllBelow n xs → AllBelow n ys → AllBelow n (reverse_aux xs ys)
     onto [] ys first second = second
     onto (x ∷ xs) ys first second = onto xs (x ∷ ys) first.1 (first.0, second)
 
@@ -139,7 +140,7 @@ length-front by xs start at order within =
 pub raised-start : (by : ℕ) (xs : List ℕ) (start : ℕ) → xs ≡ raised_to by xs start start
 raised-start by xs start =
     let none : 0 ≡ start - start = omega arith in
-    sym (Rattle.std.proofs.lemmas.List.take-append-drop start xs)
+    sym (take-append-drop start xs)
     ∙ ap (λ l. l ++ drop start xs) (sym (append-nil (take start xs)))
     ∙ ap (λ n. (take start xs ++ raised by (take n (drop start xs))) ++ drop start xs) none
 
@@ -180,8 +181,8 @@ pub below-in_slice : (bound : ℕ) (xs : List ℕ) (start end at : ℕ) → AllB
 below-in_slice bound xs start end at below order before within =
     let k : ℕ = at - start in
     let there : get_or (slice_range xs start end) k 0 ≡ get_or xs at 0 =
-    Rattle.std.proofs.lemmas.List.get_or-take (end - start) (drop start xs) k 0 (omega (arith, order, before))
-    ∙ Rattle.std.proofs.lemmas.List.get_or-drop start xs k 0
+    get_or-take (end - start) (drop start xs) k 0 (omega (arith, order, before))
+    ∙ get_or-drop start xs k 0
     ∙ ap (λ n. get_or xs n 0) (omega (arith, order)) in
     let inside : k < length (slice_range xs start end) = omega (arith, order, before, within, length-take (end - start) (drop start xs), length-drop start xs) in
     omega (arith, there, below-at bound (slice_range xs start end) k below inside)
@@ -219,3 +220,22 @@ written-over count xs ys count_is same =
 -- a list that something is appended to
 pub longer : (xs ys zs : List ℕ) → xs ≡ ys ++ zs → length ys ≤ length xs
 longer xs ys zs is = omega (arith, ap length is, length-append ys zs)
+
+raised-by_0 : (xs : List ℕ) → raised 0 xs ≡ xs
+raised-by_0 [] = refl
+raised-by_0 (x ∷ xs) = cons (omega arith) (raised-by_0 xs)
+
+in_three : (xs : List ℕ) (start count end : ℕ) → end ≡ start + count → (take start xs ++ take count (drop start xs)) ++ drop end xs ≡ xs
+in_three xs start count end is =
+    ap (λ n. (take start xs ++ take count (drop start xs)) ++ drop n xs) is
+    ∙ ap (λ l. (take start xs ++ take count (drop start xs)) ++ l) (sym (drop-drop count start xs))
+    ∙ append_assoc (take start xs) (take count (drop start xs)) (drop count (drop start xs))
+    ∙ ap (λ l. take start xs ++ l) (take-append-drop count (drop start xs))
+    ∙ take-append-drop start xs
+
+-- to raise by nothing changes nothing
+pub raised-none : (by : ℕ) (xs : List ℕ) (start end : ℕ) → start ≤ end → by ≡ 0 → xs ≡ raised_to by xs start end
+raised-none by xs start end order none =
+    sym (in_three xs start (end - start) end (omega (arith, order)))
+    ∙ ap (λ l. (take start xs ++ l) ++ drop end xs) (sym (raised-by_0 (slice_range xs start end)))
+    ∙ ap (λ n. raised_to n xs start end) (sym none)

@@ -1,8 +1,8 @@
 -- The parts between two indexes.
-use Rattle.std.proofs.Common.{◌≡◌, ◌≢◌, refl, sym, ap, ◌∙◌, subst, ℕ, zero, suc, ◌+◌, ◌-◌, ◌*◌, ◌<◌, ◌≤◌, ◌==◌, ltb, leb, Bool, true, false, ◌||◌, List, [], ◌∷◌, ◌++◌, reverse, ℤ, pos, negsuc, Option, Some, None, inl, inr, ◌⊎◌, length, take, drop, slice_range, append_assoc, append-nil, mul-le-mul_right, arith, eq-eqb, ne_eqb, lt-ltb, le-ltb, le-leb}
+use Rattle.std.proofs.Common.{◌≡◌, ◌≢◌, refl, sym, ap, ◌∙◌, subst, ℕ, suc, ◌+◌, ◌-◌, ◌*◌, ◌<◌, ◌≤◌, ◌==◌, Bool, false, List, [], ◌∷◌, ◌++◌, reverse, ℤ, pos, negsuc, Option, Some, None, inl, inr, ◌⊎◌, length, take, drop, slice_range, append_assoc, append-nil, length-append, mul-le-mul_right, arith, eq-eqb, ne_eqb, lt-ltb, le-ltb, le-leb}
 use Rattle.std.specs.Prelude.{if◌then◌else◌}
 use Rattle.std.specs.List.{range_with_len}
-use Rattle.std.proofs.lemmas.Bool.{cases_order, lt-leb, leb-false, or_parts}
+use Rattle.std.proofs.lemmas.Bool.{cases_order, lt-leb, leb-false, or_parts, or_from}
 use Rattle.std.proofs.lemmas.List.{reverse-append, drop_at, take-append-le}
 use Rattle.usuba_model.specs.Cells.{Picked, from_to, parts_between, is_outside, picks_outside}
 use Rattle.usuba_cells.specs.State.Sums.{AllBelow}
@@ -109,7 +109,7 @@ inside-more size more None le inside = refl
 pub picks-inside-more : (size more : ℕ) (bracket : Picked) → size ≤ more → picks_outside size bracket ≡ false → picks_outside more bracket ≡ false
 picks-inside-more size more bracket le inside =
     let parts = or_parts (is_outside size bracket.first.value) (is_outside size bracket.last.value) inside in
-    Rattle.std.proofs.lemmas.Bool.or_from (is_outside more bracket.first.value) (is_outside more bracket.last.value)
+    or_from (is_outside more bracket.first.value) (is_outside more bracket.last.value)
     (inside-more size more bracket.first.value le parts.0) (inside-more size more bracket.last.value le parts.1)
 
 -- the copies for the parts up to one are appended
@@ -132,7 +132,7 @@ copied-slice old stride start end first last part numbers order within so =
 pub copied-within : (old : List ℕ) (stride start end first last part : ℕ) (numbers : List ℕ) → end ≤ length old
     → Copied old stride start end first last part numbers → end ≤ length numbers
 copied-within old stride start end first last part numbers within so =
-    omega (arith, within, ap length so.numbers_are, Rattle.std.proofs.Common.length-append old so.done)
+    omega (arith, within, ap length so.numbers_are, length-append old so.done)
 
 next-few : (part last stride next : ℕ) → next ≡ next_part part last → part ≢ last → (part + 1) * stride ≤ most_operations → (last + 1) * stride ≤ most_operations
     → (next + 1) * stride ≤ most_operations

@@ -54,6 +54,10 @@ fn raise(numbers: &mut [u32], start: usize, end: usize, by: u32)
     requires few { by ≤ most_operations }
     ensures { numbers.new ≡ take start numbers.old ++ raised by (slice_range numbers.old start end) ++ drop end numbers.old }
 {
+    // sizes of 1, of which there may be very many, raise by nothing
+    if by == 0 {
+        return;
+    }
     for at in start..end {
         numbers[at] += by;
     }

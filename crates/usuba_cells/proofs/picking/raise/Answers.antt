@@ -1,5 +1,5 @@
 use Rattle.std.proofs.Common.{◌^◌, arith}
-use Rattle.usuba_cells.proofs.Numbered.{raised-start, raised-here, raised-next, below-in_slice}
+use Rattle.usuba_cells.proofs.Numbered.{raised-start, raised-here, raised-next, raised-none, below-in_slice}
 use Rattle.usuba_cells.proofs.picking.raise.Goals as goal
 
 pub loop-at-init : goal.loop-at-init
@@ -15,3 +15,6 @@ overflow_add-numbers c =
 pub loop-at-preserved : goal.loop-at-preserved
 loop-at-preserved c =
     raised-next c.args.by c.args.numbers.now c.loop-at.numbers c.args.start c.loop-at.at (omega arith) (omega arith) c.loop-at.invariant
+
+pub returns-then-by-eq0 : goal.returns-then-by-eq0
+returns-then-by-eq0 c = raised-none c.args.by c.args.numbers.now c.args.start c.args.end c.requires.order c.if-by-eq0.true

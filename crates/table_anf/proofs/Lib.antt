@@ -12,3 +12,4 @@ pub mod Products
 pub mod Sums
 pub mod Emitting
 pub mod Accepted
+pub mod RelatedLookUps

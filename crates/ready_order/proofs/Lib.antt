@@ -1,0 +1,10 @@
+pub mod Among
+pub mod MarkLemmas
+pub mod ScanLemmas
+pub mod RoundLemmas
+pub mod SettleLemmas
+pub mod StepLemmas
+pub mod OrderLemmas
+pub mod CodedNumbers
+pub mod Declared
+pub mod Carrying

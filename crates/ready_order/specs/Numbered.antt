@@ -1,5 +1,5 @@
--- What is assigned twice, what is never assigned, and what never becomes ready, over numbered cells: the findings of the seventh,
--- eighth and ninth phases of judging as usuba_model's Assignments has them over named cells.
+-- What is assigned twice, what is never assigned, and what never becomes ready, over numbered cells: the findings of the
+-- seventh, eighth and ninth phases of judging as usuba_model's Assignments has them over named cells.
 use Rattle.std.specs.Prelude.{◌≡◌, ℕ, zero, suc, ◌+◌, ◌<◌, Bool, true, false, not, ◌&&◌, ◌||◌, nat_eq, if◌then◌else◌, List, [], ◌∷◌, ◌++◌, length, map}
 use Rattle.std.specs.List.{list_any, list_all, range_with_len}
 use Rattle.tor_edge.specs.declared.place.Place.{Place}
@@ -72,7 +72,8 @@ holds_number_again taken (cell ∷ rest) = is_one_of taken cell || holds_number_
 abbrev pub numbers_again : List ℕ → List Assigned → List Finding
 numbers_again taken [] = []
 numbers_again taken (target ∷ rest) =
-    record { place = target.place; holds = holds_number_again taken target.cells } ∷ numbers_again (target.cells ++ taken) rest
+    record { place = target.place; holds = holds_number_again taken target.cells }
+    ∷ numbers_again (target.cells ++ taken) rest
 
 -- the left sides in walk order: each is at fault where it holds an input or a cell that was assigned before
 abbrev pub twice_numbered : ℕ → List Coded → List Finding
@@ -108,12 +109,15 @@ is_ready_numbered known instance = list_all (is_one_of known) (numbers_read inst
 abbrev pub numbers_made : List ℕ → List Coded → List ℕ
 numbers_made known [] = []
 numbers_made known (instance ∷ rest) =
-    if is_ready_numbered known instance then left_numbers instance ++ numbers_made known rest else numbers_made known rest
+    if is_ready_numbered known instance
+    then left_numbers instance ++ numbers_made known rest
+    else numbers_made known rest
 
 -- the cells that are known after so many rounds, in each of which the ready instances assign their cells
 abbrev pub numbers_after : List Coded → ℕ → List ℕ → List ℕ
 numbers_after instances zero known = known
-numbers_after instances (suc n) known = let before = numbers_after instances n known in numbers_made before instances ++ before
+numbers_after instances (suc n) known =
+    let before = numbers_after instances n known in numbers_made before instances ++ before
 
 -- where an instance begins: its first left side
 abbrev pub first_place : List Assigned → Place
@@ -122,7 +126,10 @@ first_place (target ∷ targets) = target.place
 
 -- an instance: at fault where it is not ready when these cells are known
 abbrev pub stuck_finding : List ℕ → Coded → Finding
-stuck_finding known instance = record { place = first_place instance.targets; holds = not (is_ready_numbered known instance) }
+stuck_finding known instance = record {
+  place = first_place instance.targets;
+  holds = not (is_ready_numbered known instance);
+}
 
 -- the instances in walk order: each is at fault where it is not ready after as many rounds as there are instances
 abbrev pub cyclic_numbered : ℕ → List Coded → List Finding

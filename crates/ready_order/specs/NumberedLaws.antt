@@ -15,12 +15,14 @@ abbrev pub unassigned_numbered : Node → List Coded → List Finding
 unassigned_numbered node instances =
     let assigned = is_one_of (assigned_numbers instances) in
     outputs_numbered assigned (all_elements node.inputs) node.outputs
-    ++ locals_numbered assigned (is_one_of (read_numbers instances)) (all_elements node.inputs + all_elements node.outputs) node.locals
+    ++ locals_numbered assigned (is_one_of (read_numbers instances))
+    (all_elements node.inputs + all_elements node.outputs) node.locals
 
--- The findings over the numbered cells of a node whose declared names are distinct are those over its named cells. The numbers
--- are below the count of all elements, whether names are distinct or not.
+-- The findings over the numbered cells of a node whose declared names are distinct are those over its named cells. The
+-- numbers are below the count of all elements, whether names are distinct or not.
 pub record NumberedFindings : Type 0 where
-  pub below : (signatures : List Signature) (node : Node) → AreBelow (all_elements (declarations node)) (coded_node signatures node)
+  pub below : (signatures : List Signature) (node : Node)
+      → AreBelow (all_elements (declarations node)) (coded_node signatures node)
   pub twice : (signatures : List Signature) (node : Node) → AreDistinct (declarations node)
       → twice_numbered (all_elements node.inputs) (coded_node signatures node) ≡ twice_in node
   pub unassigned : (signatures : List Signature) (node : Node) → AreDistinct (declarations node)

@@ -1,5 +1,5 @@
-// An order to try, made in linear time by counting what each instance still waits for. Nothing is proved of it: a scan takes along it
-// only what is ready.
+// An order to try, made in linear time by counting what each instance still waits for. Nothing is proved of it: a scan
+// takes along it only what is ready.
 ghost use Rattle.std.specs.Prelude.{◌<◌, ◌^◌, length};
 
 use std::alloc::{AllocError, Global};

@@ -1,5 +1,5 @@
-//! The order of a node's equation instances over numbered cells: what is assigned twice, what is never assigned, and an order in
-//! which each instance is ready in its turn.
+//! The order of a node's equation instances over numbered cells: what is assigned twice, what is never assigned, and an
+//! order in which each instance is ready in its turn.
 #![tactic(auto)]
 
 mod hint;

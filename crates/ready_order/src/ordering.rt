@@ -79,7 +79,8 @@ fn settled_scan(alloc: Global, table: &Table, inputs: u32, cells: u32) -> Result
     Ok(scan)
 }
 
-/// An order in which each instance of a table is ready in its turn. The inputs are the cells below `inputs`, and all cells are below `cells`.
+/// An order in which each instance of a table is ready in its turn. The inputs are the cells below `inputs`, and all
+/// cells are below `cells`.
 pub fn order_of(alloc: Global, table: &Table, inputs: u32, cells: u32) -> Result<Order, AllocError>
     requires few { length table.now.done < 2 ^ 32 }
     requires inputs { inputs ≤ cells }

@@ -12,7 +12,8 @@ use tor_edge::Place;
 use usuba_code::Table;
 use usuba_model::{Fault, FaultKind};
 
-// The first left side of instance `k` that holds a marked cell, or a cell twice. The cells of all are marked where there is none.
+// The first left side of instance `k` that holds a marked cell, or a cell twice. The cells of all are marked where there
+// is none.
 fn first_again(table: &Table, k: usize, marks: &mut Vec<bool>) -> Option<Place>
     requires { k < length table.now.done }
     ensures found { result ≡ first_marked marks.old.items (coded_at table.now.done k).targets }
@@ -26,8 +27,8 @@ fn first_again(table: &Table, k: usize, marks: &mut Vec<bool>) -> Option<Place>
     None
 }
 
-/// The fault of the first left side, in walk order, that holds an input's cell, a cell that was assigned before, or a cell twice. The inputs
-/// are the cells below `inputs`, and all cells are below `cells`.
+/// The fault of the first left side, in walk order, that holds an input's cell, a cell that was assigned before, or a
+/// cell twice. The inputs are the cells below `inputs`, and all cells are below `cells`.
 pub fn first_twice(
     alloc: Global,
     table: &Table,

@@ -6,7 +6,8 @@ use Rattle.ready_order.specs.Numbered.{is_one_of, input_numbers, left_numbers}
 use Rattle.ready_order.specs.Order.{AreReady, AreDistinct}
 use Rattle.ready_order.specs.State.Marks.{is_marked, all_marked, reads_marked}
 
--- marks of the cells that are known and of the instances that are taken, and these in the order in which they were taken
+-- marks of the cells that are known and of the instances that are taken, and these in the order in which they were
+-- taken
 pub record Progress : Type 0 where
   pub known : List Bool
   pub taken : List Bool
@@ -54,7 +55,8 @@ known_along known (instance ∷ rest) = known_along (left_numbers instance ++ kn
 pub record IsScan (inputs cells : ℕ) (instances : List Coded) (scan : Progress) : Type 0 where
   pub wide : length scan.known ≡ cells
   pub as_many : length scan.taken ≡ length instances
-  pub known : (c : ℕ) → is_marked scan.known c ≡ is_one_of (known_along (input_numbers inputs) (map (coded_at instances) scan.order)) c
+  pub known : (c : ℕ)
+      → is_marked scan.known c ≡ is_one_of (known_along (input_numbers inputs) (map (coded_at instances) scan.order)) c
   pub taken : (k : ℕ) → is_marked scan.taken k ≡ is_one_of scan.order k
   pub count : set_count scan.taken ≡ length scan.order
   pub distinct : AreDistinct scan.order

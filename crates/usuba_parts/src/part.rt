@@ -1,6 +1,9 @@
 //! The parts of a tree that is being built, as a stack. Lists of parts are built from their last item on, so they stand in
 //! reverse.
 
+ghost use Rattle.std.specs.Prelude.{◌≡◌, ◌≢◌, ◌∷◌, [], IsTrue, OnOk};
+ghost use Rattle.usuba_parts.specs.Parts as top;
+
 use std::alloc::{AllocError, Global};
 use std::marker::Model;
 use tor_edge::{List, Place};
@@ -77,10 +80,32 @@ impl Model for Parts {
     ghost view = { λ p. reverse p.parts.items };
 }
 
-impl Parts {
-    ghost use Rattle.std.specs.Prelude.{◌≡◌, ◌≢◌, ◌∷◌, [], IsTrue, OnOk};
-    ghost use Rattle.usuba_parts.specs.Parts as top;
+// A part that is only read is let go of in another function, since a part of which a pattern takes nothing that has to be
+// let go costs minutes to prove.
+fn place_of_mark(part: &Part) -> Place
+    requires { IsTrue (top.is_mark (part.now ∷ [])) }
+    ensures { part.now ≡ Part.Mark (record { place = result }) }
+{
+    match part {
+        Part::Mark(mark) => mark.place,
+        _ => unreachable!(),
+    }
+}
 
+fn copy_of_numeral(part: &Part) -> Numeral
+    requires { IsTrue (top.is_number (part.now ∷ [])) }
+    ensures { part.now ≡ Part.Number result }
+{
+    match part {
+        Part::Number(numeral) => Numeral {
+            place: numeral.place,
+            value: numeral.value,
+        },
+        _ => unreachable!(),
+    }
+}
+
+impl Parts {
     pub fn new(alloc: Global) -> Parts
         ensures { result ≡ [] }
     {
@@ -110,10 +135,10 @@ impl Parts {
         requires { IsTrue (top.is_mark self.old) }
         ensures { self.old ≡ Part.Mark (record { place = result }) ∷ self.new }
     {
-        match self.parts.pop() {
-            Some(Part::Mark(mark)) => mark.place,
-            _ => unreachable!(),
-        }
+        let part = self.pop();
+        let place = place_of_mark(&part);
+        drop(part);
+        place
     }
 
     pub fn pop_word(&mut self) -> Word
@@ -140,10 +165,10 @@ impl Parts {
         requires { IsTrue (top.is_number self.old) }
         ensures { self.old ≡ Part.Number result ∷ self.new }
     {
-        match self.parts.pop() {
-            Some(Part::Number(value)) => value,
-            _ => unreachable!(),
-        }
+        let part = self.pop();
+        let numeral = copy_of_numeral(&part);
+        drop(part);
+        numeral
     }
 
     pub fn pop_index(&mut self) -> Index

@@ -4,6 +4,7 @@ use Rattle.tor_edge.specs.declared.files.Reason.{Reason}
 use Rattle.tornado_main.specs.declared.message.Fault.{Fault}
 use Rattle.tornado_main.specs.declared.status.Status.{Status}
 
+-- an answer, a file that is refused, or one that could not be read
 pub data Outcome : Type 0 where
   -- with this text, all of which is printed, and this status
   answers : (text : List ℕ) → Status → Outcome

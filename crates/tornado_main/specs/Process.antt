@@ -19,6 +19,7 @@ abbrev pub lost_status : LostWords → Status
 lost_status lost.NotText = Usage
 lost_status lost.Memory = Memory
 
+-- what is said where the words could not be had
 abbrev pub lost_message : LostWords → List ℕ
 lost_message lost.NotText = run_message complaint.BadCommandLine
 lost_message lost.Memory = run_message complaint.OutOfMemory

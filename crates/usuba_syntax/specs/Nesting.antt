@@ -48,6 +48,7 @@ abbrev pub belongs : ℕ → TokenKind → Bool
 belongs zero k = goes_on k
 belongs (suc n) k = true
 
+-- whether no token comes any more
 abbrev pub is_last : List Token → Bool
 is_last [] = true
 is_last (t ∷ rest) = false

@@ -1,6 +1,7 @@
 -- The three faults of a source, each with its place.
 use Rattle.tor_edge.specs.declared.place.Place.{Place}
 
+-- what is wrong with bytes that spell no file, and where
 pub data SourceFault : Type 0 where
   -- the bytes are no file
   Syntax : Place → SourceFault

@@ -19,17 +19,17 @@ use Rattle.usuba_model.proofs.JudgingLemmas.{first_none, second_none}
 use Rattle.usuba_model.proofs.Knowing.{NoneHold, none_second, none_hold}
 
 -- a definition is found by its name
-abbrev IsFound : List Def → Def → Type 0
+abbrev pub IsFound : List Def → Def → Type 0
 IsFound earlier d =
     (is_name_among (names earlier) (name_of d).text ≡ true) × (signature_of (map signature earlier) (name_of d).text ≡ signature d)
 
 -- a definition is one of some
-abbrev IsOne : Def → List Def → Type 0
+abbrev pub IsOne : Def → List Def → Type 0
 IsOne d [] = ⊥
 IsOne d (e ∷ defs) = (e ≡ d) ⊎ IsOne d defs
 
 -- a new definition is found, and those before it still are
-found_first : (earlier : List Def) (d : Def) → IsFound (d ∷ earlier) d
+pub found_first : (earlier : List Def) (d : Def) → IsFound (d ∷ earlier) d
 found_first earlier d =
     let same : bytes_eq (name_of d).text (name_of d).text ≡ true = (bytes_eq-Decides (name_of d).text (name_of d).text).1 refl in
     let test : bytes_eq (signature d).name (name_of d).text ≡ true = ap (λ (n : List ℕ). bytes_eq n (name_of d).text) (signature_name d) ∙ same in (
@@ -37,7 +37,7 @@ found_first earlier d =
       ap (λ (b : Bool). if b then signature d else signature_of (map signature earlier) (name_of d).text) test,
     )
 
-found_later : (earlier : List Def) (d : Def) → is_name_among (names earlier) (name_of d).text ≡ false → (e : Def) → IsFound earlier e → IsFound (d ∷ earlier) e
+pub found_later : (earlier : List Def) (d : Def) → is_name_among (names earlier) (name_of d).text ≡ false → (e : Def) → IsFound earlier e → IsFound (d ∷ earlier) e
 found_later earlier d new e found = (
   or_found (bytes_eq (name_of e).text (name_of d).text) (is_name_among (names earlier) (name_of e).text) found.0,
   ap (λ (b : Bool). if b then signature d else signature_of (map signature earlier) (name_of e).text)
@@ -73,7 +73,7 @@ all_found (d ∷ rest) earlier none before e h =
     moved (inr g) = inr (inr g)
 
 -- the definition at a number is one of them, and has the name there
-at_number : (defs : List Def) (k : ℕ) (d : Def) → slice_get defs k ≡ Some d → IsOne d defs × (name_at defs k ≡ (name_of d).text)
+pub at_number : (defs : List Def) (k : ℕ) (d : Def) → slice_get defs k ≡ Some d → IsOne d defs × (name_at defs k ≡ (name_of d).text)
 at_number [] k d e = absurd (none-some d e)
 at_number (f ∷ defs) zero d e = (inl (some_same f d e), ap (λ (g : Def). (name_of g).text) (some_same f d e))
   where
@@ -82,7 +82,7 @@ at_number (f ∷ defs) zero d e = (inl (some_same f d e), ap (λ (g : Def). (nam
 at_number (f ∷ defs) (suc k) d e = let later = at_number defs k d e in (inr later.0, later.1)
 
 -- what a judged file has passed, from the first definition on
-judged_passes : (asked_width : Option ℕ) (asked_entry : Option (List ℕ)) (file : File) (width entry : ℕ)
+pub judged_passes : (asked_width : Option ℕ) (asked_entry : Option (List ℕ)) (file : File) (width entry : ℕ)
     → IsJudged asked_width asked_entry file width entry
     → NoneHold (repeated_names [] file.defs) × Pass width [] file.defs
 judged_passes asked_width asked_entry file width entry judged =

@@ -96,11 +96,11 @@ module _ {V : Type 0} (operators : Operators V) (w : ℕ) (some_width : 0 < w) w
   AllTotal earlier = AreTotal (names earlier) (map signature earlier) (outcomes operators earlier)
 
   -- one definition answers elements for its inputs by as many elements as it has outputs
-  abbrev Answers : List Def → Def → Type 0
+  abbrev pub Answers : List Def → Def → Type 0
   Answers earlier d = (xs : List V) → length xs ≡ (signature d).inputs
       → (ys : List V) × (definition_outcome operators (outcomes operators earlier) d xs ≡ Some ys) × (length ys ≡ (signature d).outputs)
 
-  definition_answers : (earlier : List Def) → AllTotal earlier → (d : Def) (rest : List Def) → Pass w earlier (d ∷ rest) → Answers earlier d
+  pub definition_answers : (earlier : List Def) → AllTotal earlier → (d : Def) (rest : List Def) → Pass w earlier (d ∷ rest) → Answers earlier d
   definition_answers earlier total (def.Node node) rest pass xs len =
       let fits = node_fits w some_width (map signature earlier) node 0 (first_none _ _ pass.walks) in
       let knows = node_knows (names earlier) node (none_first (unknown_in_definition (names earlier) (def.Node node)) _ pass.known) in
@@ -125,7 +125,7 @@ module _ {V : Type 0} (operators : Operators V) (w : ℕ) (some_width : 0 < w) w
       not_bad fault later false e = refl
 
   -- with one more definition that answers, all answer
-  total_next : (earlier : List Def) → AllTotal earlier → (d : Def) → Answers earlier d → AllTotal (d ∷ earlier)
+  pub total_next : (earlier : List Def) → AllTotal earlier → (d : Def) → Answers earlier d → AllTotal (d ∷ earlier)
   total_next earlier total d answers name m xs len =
       of_test (bytes_eq (name_of d).text name) refl m len
     where
@@ -173,12 +173,12 @@ module _ {V : Type 0} (operators : Operators V) (w : ℕ) (some_width : 0 < w) w
       at_test fault later true e = absurd (none-some _ (sym e))
       at_test fault later false e = e
 
-  findings_after : (of : Node → List Finding) (d : Def) (rest : List Def) → NoneHold (of_nodes of (d ∷ rest)) → NoneHold (of_nodes of rest)
+  pub findings_after : (of : Node → List Finding) (d : Def) (rest : List Def) → NoneHold (of_nodes of (d ∷ rest)) → NoneHold (of_nodes of rest)
   findings_after of (def.Node node) rest none = none_second (of node) (of_nodes of rest) none
   findings_after of (def.Table grid) rest none = none
   findings_after of (def.Perm grid) rest none = none
 
-  pass_after : (earlier : List Def) (d : Def) (rest : List Def) → Pass w earlier (d ∷ rest) → Pass w (d ∷ earlier) rest
+  pub pass_after : (earlier : List Def) (d : Def) (rest : List Def) → Pass w earlier (d ∷ rest) → Pass w (d ∷ earlier) rest
   pass_after earlier d rest pass = record {
     walks = second_none (walk_fault 0 (definition_steps w (map signature earlier) d)) _ pass.walks;
     known = none_second (unknown_in_definition (names earlier) d) _ pass.known;

@@ -35,7 +35,7 @@ module _ {V : Type 0} where
   same_options None None b b' = refl
 
   -- what is given stands at one of the cells
-  given_among : (cs : List Cell) (vs : List V) (cell : Cell) (y : V) → given cs vs cell ≡ Some y → is_among cs cell ≡ true
+  pub given_among : (cs : List Cell) (vs : List V) (cell : Cell) (y : V) → given cs vs cell ≡ Some y → is_among cs cell ≡ true
   given_among [] vs cell y e = absurd (none-some y e)
   given_among (c ∷ cs) [] cell y e = absurd (none-some y e)
   given_among (c ∷ cs) (v ∷ vs) cell y e = at_first (same_cell cell c) e (given_among cs vs cell y)
@@ -99,7 +99,7 @@ module _ {V : Type 0} where
         at_first true e later = refl
         at_first false e later = later e
 
-    extended_within : (known : List Cell) (e : Environment V) → IsWithin known e → (cs : List Cell) (vs : List V)
+    pub extended_within : (known : List Cell) (e : Environment V) → IsWithin known e → (cs : List Cell) (vs : List V)
         → IsWithin (cs ++ known) (extended e cs vs)
     extended_within known e within cs vs cell y s = of_old (e cell) refl s
       where

@@ -1,0 +1,16 @@
+mod Eaches
+mod Stores
+mod Stacking
+mod Picking
+mod Assigning
+mod Splitting
+mod Callees
+mod Runs
+mod NodeRuns
+mod Targets
+mod Choices
+mod Taking
+mod Fresh
+mod NodePlans
+mod FilePlans
+mod Fitting

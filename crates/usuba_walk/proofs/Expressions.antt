@@ -1,6 +1,7 @@
 -- An expression is walked as its parts are.
 use Rattle.std.proofs.Common.{◌≡◌, ℕ, suc, ◌+◌, ◌<◌, ◌≤◌, List, [], ◌∷◌, ◌++◌, map, length, drop, get_or, Some, None, refl, sym, ap, ◌∙◌, subst, add-one, arith}
 use Rattle.std.proofs.Math.Seq.{drop-cons}
+use Rattle.std.proofs.lemmas.List.{length-map}
 use Rattle.tor_edge.specs.declared.place.Place.{Place}
 use Rattle.usuba_trees.specs.declared.BitOp.{BitOp}
 use Rattle.usuba_trees.specs.declared.Decl.{Decl}
@@ -12,7 +13,7 @@ use Rattle.usuba_trees.specs.declared.ShiftLink.{ShiftLink}
 use Rattle.usuba_trees.specs.declared.Spot.{Spot}
 use Rattle.usuba_trees.specs.declared.Word.{Word}
 use Rattle.usuba_model.specs.declared.fault.Fault.{Fault}
-use Rattle.usuba_model.specs.Cells.{spot_read}
+use Rattle.usuba_model.specs.Cells.{Cell, spot_read}
 use Rattle.usuba_model.specs.Indexes.{Counter, computed}
 use Rattle.usuba_model.specs.Unrolled.{number, cells, natural}
 use Rattle.usuba_model.specs.Walk.{Step, Signature, signature_of, size_of, number_step, spot_step, call_step, operator_step, shift_step, refresh_step, Walked, walked_parts, walked_call, walked_complement, walked_chain, walked_shifts, walked_refresh, walk_of, walk_fault, count_of}
@@ -31,6 +32,23 @@ use Rattle.usuba_walk.proofs.Trees.{parts_of, links_of, walked-number, walked-sp
 pub cell_code-numbers : (declared : List Decl) (read : List _) → cell_code (map (cell_number declared) read) ≡ map (read_cell declared) read
 cell_code-numbers declared [] = refl
 cell_code-numbers declared (cell ∷ read) = ap (λ code. read_cell declared cell ∷ code) (cell_code-numbers declared read)
+
+-- the cells of a spot are read once its step is taken and their code is added
+pub read-makes : (declared : List Decl) (first middle last : Progress) (size : ℕ) (step : Step) (numbers : List ℕ) (read : List Cell)
+    → Takes first middle (step ∷ []) first.table → numbers ≡ map (cell_number declared) read → last.count ≡ middle.count
+    → last.table ≡ with_code middle.table (cell_code numbers) → size ≡ length numbers → step.adds ≡ length read
+    → Makes first last size (step ∷ []) (map (read_cell declared) read)
+read-makes declared first middle last size step numbers read takes are count table size_is adds_is =
+    let many : length numbers ≡ length read = ap length are ∙ length-map read (cell_number declared) in
+    record {
+      takes = record {
+        clean = takes.clean;
+        count = count ∙ takes.count;
+        table = table ∙ ap (λ t. with_code t (cell_code numbers)) takes.table
+            ∙ ap (λ ns. with_code first.table (cell_code ns)) are ∙ ap (with_code first.table) (cell_code-numbers declared read);
+      };
+      few = omega (arith, count, takes.count, size_is, adds_is, many);
+    }
 
 -- what is left of a list begins with the next element
 pub drop-next : {A : Type 0} (xs : List A) (i : ℕ) (item : A) → i < length xs → item ≡ get_or xs i item → drop i xs ≡ item ∷ drop (i + 1) xs

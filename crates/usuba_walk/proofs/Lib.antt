@@ -2,8 +2,10 @@ pub mod Faulting
 pub mod Trees
 pub mod Chains
 pub mod Taking
-pub mod SingleSteps
 pub mod Expressions
 pub mod Signatures
 pub mod ItemTrees
 pub mod Ranges
+pub mod Equations
+pub mod ItemWalks
+pub mod Whole

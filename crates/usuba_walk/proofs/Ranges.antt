@@ -26,3 +26,9 @@ from_up-past value high past = at (high -ℤ value) refl
     at : (d : ℤ) → high -ℤ value ≡ d → from_up value d ≡ []
     at (pos n) is = absurd (omega (arith, ints, is, past))
     at (negsuc n) is = refl
+
+-- at a bound there is one value
+pub from_up-last : (value high : ℤ) → value ≡ high → from_up value (high -ℤ value) ≡ value ∷ []
+from_up-last value high is =
+    let none : high -ℤ value ≡ pos 0 = omega (arith, ints, is) in
+    ap (from_up value) none

@@ -1,8 +1,10 @@
 ghost use Rattle.std.specs.Prelude.{◌≡◌, ◌<◌, ◌^◌, nat_le};
 ghost use Rattle.usuba_model.specs.Faults.{when as when_holds, first_kind};
 ghost use Rattle.usuba_model.specs.Unrolled.{natural as natural_of};
-ghost use Rattle.usuba_model.specs.Walk.{is_beyond as is_past};
+ghost use Rattle.usuba_model.specs.Walk.{computing_fault as fault_of, is_beyond as is_past};
+ghost use Rattle.usuba_cells.specs.Counters.{computed_of};
 
+use usuba_cells::Computed;
 use usuba_model::FaultKind;
 
 /// A kind of fault where its condition holds.
@@ -20,6 +22,16 @@ pub fn first(earlier: Option<FaultKind>, later: Option<FaultKind>) -> Option<Fau
         Some(kind) => Some(kind),
         None => later,
     }
+}
+
+/// What a computed index has at fault, whatever it is for.
+pub fn computing_fault(computed: &Computed) -> Option<FaultKind>
+    ensures { result ≡ fault_of (computed_of computed.now) }
+{
+    first(
+        when(computed.divided_by_zero, FaultKind::ZeroDivisor),
+        when(computed.too_big, FaultKind::IndexOut),
+    )
 }
 
 /// Whether a whole number is below 0 or at or above a bound.

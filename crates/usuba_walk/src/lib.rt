@@ -2,11 +2,18 @@
 #![tactic(auto)]
 
 mod count;
+mod definition;
 mod definitions;
+mod equation;
+mod expression;
 mod faults;
+mod items;
 mod leaves;
 mod progress;
 mod pushes;
+mod scope;
+mod spots;
 mod stop;
 
+pub use definition::{Walked, walk_definition};
 pub use definitions::{Callee, Definitions};

@@ -216,7 +216,7 @@ module _ (declared : List Decl) where
       both_same : {a b x y : Bool} → a ≡ b → x ≡ y → (a && not x) ≡ (b && not y)
       both_same {b = b} {x = x} e f = ap (λ (t : Bool). t && not x) e ∙ ap (λ (t : Bool). b && not t) f
 
-all_elements-append : (a b : List Decl) → all_elements (a ++ b) ≡ all_elements a + all_elements b
+pub all_elements-append : (a b : List Decl) → all_elements (a ++ b) ≡ all_elements a + all_elements b
 all_elements-append [] b = omega arith
 all_elements-append (d ∷ a) b = let more = all_elements-append a b in omega (arith, more)
 

@@ -8,3 +8,4 @@ pub mod OrderLemmas
 pub mod CodedNumbers
 pub mod Declared
 pub mod Carrying
+pub mod LackingLemmas

@@ -1,3 +1,4 @@
 -- What the contracts of private functions cite. No public clause needs these files.
+pub mod Lacking
 pub mod Marks
 pub mod Scan

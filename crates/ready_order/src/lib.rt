@@ -8,9 +8,11 @@ mod marks;
 mod ordering;
 mod scan;
 mod twice;
+mod unassigned;
 mod uses;
 
 pub use laws::numbered_findings;
 pub use ordering::{Order, order_of};
 pub use twice::first_twice;
+pub use unassigned::first_unassigned;
 pub use uses::Uses;

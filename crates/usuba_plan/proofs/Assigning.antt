@@ -1,12 +1,11 @@
 -- Cells of handles: how they begin, and what is written to them.
 use Rattle.std.proofs.Common.{◌≡◌, ◌⊎◌, inl, inr, ℕ, zero, suc, ◌+◌, ◌-◌, ◌<◌, ◌≤◌, min, Bool, true, false, ◌==◌, List, [], ◌∷◌, ◌++◌, length, map, drop, get_or, set, replicate, Option, Some, None, refl, sym, ap, ◌∙◌, subst, arith}
-use Rattle.std.specs.Prelude.{option_map, slice_get, if◌then◌else◌, IsSome}
+use Rattle.std.specs.Prelude.{if◌then◌else◌, IsSome}
 use Rattle.std.specs.Option.{option_flatten, option_or}
 use Rattle.std.proofs.lemmas.Bool.{eqb-true, eqb-false, cases_lt}
 use Rattle.std.proofs.lemmas.List.{drop_more, drop_all, get_or-set_same, get_or-set_other, length-set, get_or_default}
-use Rattle.std.proofs.lemmas.Option.{slice_get-get_or, slice_get_past}
+use Rattle.std.proofs.lemmas.Option.{slice_get_past}
 use Rattle.usuba_code.specs.CodeLaw.{Each}
-use Rattle.usuba_code.specs.Machine.{NumberedEnvironment}
 use Rattle.usuba_model.specs.Rounds.{element_at}
 use Rattle.usuba_plan.specs.Made.{given_at, with_given}
 use Rattle.usuba_plan.specs.State.Handles.{handle_at}
@@ -54,12 +53,12 @@ module _ {H : Type 0} where
         where
           other : (n ≡ c → ⊥) → handle_at (set cells c (Some h)) n ≡ handle_at cells n
           other differs = elim (cases_lt n (length cells)) [
-              inl within ↦
+            | inl within ↦
                 handle_read (set cells c (Some h)) n (subst (λ m. n < m) (sym (length-set cells c (Some h))) within) None
                 ∙ get_or-set_other cells c n (Some h) None differs ∙ sym (handle_read cells n within None)
-              | inr past ↦
+            | inr past ↦
                 handle_past (set cells c (Some h)) n (subst (λ m. m ≤ n) (sym (length-set cells c (Some h))) past) ∙ sym (handle_past cells n past)
-            ]
+          ]
 
   -- the cells from a place on have got their handles
   abbrev pub Assigned : List ℕ → List H → List (Option H) → List (Option H) → ℕ → Type 0
@@ -90,9 +89,9 @@ module _ {H : Type 0} where
       ∙ ap (λ (o : Option H). if n == c then Some h else o) (later n)
       ∙ moved (n == c)
       ∙ ap (λ (cs : List ℕ). with_given cs (h ∷ drop (i + 1) handles) (handle_at old) n)
-        (ap (λ (d : ℕ). d ∷ drop (i + 1) cells) is ∙ sym (drop_more cells i c less))
+      (ap (λ (d : ℕ). d ∷ drop (i + 1) cells) is ∙ sym (drop_more cells i c less))
       ∙ ap (λ (hs : List H). with_given (drop i cells) hs (handle_at old) n)
-        (ap (λ (d : H). d ∷ drop (i + 1) handles) is' ∙ sym (drop_more handles i h less'))
+      (ap (λ (d : H). d ∷ drop (i + 1) handles) is' ∙ sym (drop_more handles i h less'))
     where
       moved : (b : Bool) → (if b then Some h else with_given (drop (i + 1) cells) (drop (i + 1) handles) (handle_at old) n)
           ≡ option_or (if b then Some h else given_at (drop (i + 1) cells) (drop (i + 1) handles) n) (handle_at old n)

@@ -1,8 +1,7 @@
 -- What the definitions below a number make, and the room that they want.
-use Rattle.std.proofs.Common.{◌≡◌, ◌<◌, ◌≤◌, ℕ, zero, suc, Bool, true, false, ◌==◌, List, [], ◌∷◌, length, Option, Some, None, refl, sym, ap, ◌∙◌, subst, arith}
+use Rattle.std.proofs.Common.{◌≡◌, ◌<◌, ℕ, zero, suc, Bool, true, false, ◌==◌, List, Option, Some, None, refl, sym, ap, ◌∙◌, arith}
 use Rattle.std.specs.Prelude.{IsSome, slice_get, if◌then◌else◌}
 use Rattle.std.proofs.lemmas.Bool.{eqb-true, eqb-false}
-use Rattle.std.proofs.lemmas.Option.{slice_get_within}
 use Rattle.usuba_trees.specs.declared.Def.{Def}
 use Rattle.usuba_model.specs.Rounds.{Operators}
 use Rattle.usuba_plan.specs.Made.{made_by, made_of, made_below, plan_outcome}

@@ -1,17 +1,16 @@
 -- The plan of a definition that can be run, by its kind.
-use Rattle.std.proofs.Common.{◌≡◌, ℕ, ◌+◌, ◌*◌, ◌^◌, ◌<◌, ◌≤◌, List, length, get_or, Option, Some, None, Result, Ok, Err, refl, sym, ap, ◌∙◌, subst, arith}
+use Rattle.std.proofs.Common.{◌≡◌, ℕ, ◌+◌, ◌*◌, ◌^◌, ◌<◌, ◌≤◌, List, length, get_or, Option, Some, Result, Ok, Err, sym, ap, ◌∙◌, subst}
 use Rattle.std.specs.Prelude.{slice_get, IsSome, IfOk, OnOk, is_ok, if◌then◌else◌}
 use Rattle.std.proofs.lemmas.Option.{get_or_from_slice_get, slice_get_within}
 use Rattle.usuba_trees.specs.declared.Def.{Def}
 use Rattle.usuba_model.specs.Rounds.{looked_up, permuted}
 use Rattle.usuba_model.specs.Walk.{signature}
-use Rattle.usuba_code.specs.CodeLaw.{Each}
-use Rattle.usuba_plan.specs.Fit.{inputs_of, inputs_at, NodeFits, TableFits, PlanFits, AllFit}
+use Rattle.usuba_plan.specs.Fit.{inputs_of, TableFits, PlanFits}
 use Rattle.usuba_plan.specs.Made.{entries_of, made_by, made_by_node, made_below, plan_outcome}
 use Rattle.usuba_plan.specs.Room.{order_room, room_by, room_of, room_below, plan_room}
 use Rattle.usuba_plan.specs.Running.{CanRun}
 use Rattle.usuba_plan.specs.State.Runs.{CanRunNode}
-use Rattle.usuba_plan.specs.Store.{Store, Gives, Keeps, meanings}
+use Rattle.usuba_plan.specs.Store.{Store, meanings}
 use Rattle.usuba_plan.specs.declared.plans.NodePlan.{NodePlan}
 use Rattle.usuba_plan.specs.declared.plans.Plan.{Plan}
 use Rattle.usuba_plan.specs.declared.plans.Plan.TheVariants as plan

@@ -1,5 +1,5 @@
 -- What holds of each of some things, for parts of lists.
-use Rattle.std.proofs.Common.{◌≡◌, ℕ, zero, suc, ◌<◌, List, [], ◌∷◌, ◌++◌, length, take, drop, get_or, arith}
+use Rattle.std.proofs.Common.{ℕ, zero, suc, ◌<◌, List, [], ◌∷◌, ◌++◌, length, take, drop, get_or, arith}
 use Rattle.usuba_code.specs.CodeLaw.{Each}
 
 module _ {A : Type 0} (P : A → Type 0) where

@@ -1,25 +1,23 @@
 -- The plans of a judged file give what its definitions make.
-use Rattle.std.proofs.Common.{◌≡◌, ◌⊎◌, inl, inr, ◌+◌, ◌<◌, ◌≤◌, ℕ, zero, suc, Bool, true, false, ◌||◌, ◌==◌, List, [], ◌∷◌, ◌++◌, length, map, reverse, get_or, Option, Some, None, refl, sym, ap, ◌∙◌, subst, arith}
+use Rattle.std.proofs.Common.{◌≡◌, inl, inr, ◌+◌, ◌<◌, ℕ, zero, suc, Bool, true, false, ◌||◌, ◌==◌, List, [], ◌∷◌, ◌++◌, length, map, Option, Some, None, refl, sym, ap, ◌∙◌, subst, arith}
 use Rattle.std.specs.Prelude.{bytes_eq, slice_get, if◌then◌else◌}
-use Rattle.std.proofs.lemmas.Bool.{eqb-true, eqb-false, eq-eqb, cases_lt}
+use Rattle.std.proofs.lemmas.Bool.{eqb-true, eq-eqb, cases_lt}
 use Rattle.std.proofs.lemmas.List.{length-map}
-use Rattle.std.proofs.lemmas.Option.{none-some, same_Some, slice_get_within}
+use Rattle.std.proofs.lemmas.Option.{same_Some, slice_get_within}
 use Rattle.std.proofs.lemmas.Slice.Eq.{bytes_eq-Decides}
 use Rattle.usuba_trees.specs.declared.Def.{Def}
 use Rattle.usuba_trees.specs.declared.Def.TheVariants as def
 use Rattle.usuba_trees.specs.declared.File.{File}
-use Rattle.usuba_trees.specs.declared.Node.{Node}
 use Rattle.usuba_model.specs.declared.fault.FaultKind.TheVariants.{AssignedTwice}
-use Rattle.usuba_model.specs.Assignments.{twice_in, of_nodes, twice_fault, unassigned_fault, cyclic_fault}
+use Rattle.usuba_model.specs.Assignments.{twice_in, of_nodes, twice_fault}
 use Rattle.usuba_model.specs.Entries.{entry_of, entry_fault, width_of, width_fault, grid_fault}
-use Rattle.usuba_model.specs.Faults.{Finding}
-use Rattle.usuba_model.specs.Judging.{IsJudged, fault_at_entry, later_fault_at, walks_fault, name_at}
+use Rattle.usuba_model.specs.Judging.{IsJudged, fault_at_entry, later_fault_at, walks_fault}
 use Rattle.usuba_model.specs.Names.{is_name_among, name_of, names_of, repeated_names, repeated_declarations, declared_in, counters_in, unknown_in_definition}
 use Rattle.usuba_model.specs.Numbers.{callee_number, AreDistinct}
 use Rattle.usuba_model.specs.Operations.{calls_of}
 use Rattle.usuba_model.specs.Rounds.{Operators, definition_outcome, outcomes}
 use Rattle.usuba_model.specs.Unrolled.{Expression, cells, number, nothing, joined, call, complement, operation, shift, refresh, Instance, declarations, unrolled}
-use Rattle.usuba_model.specs.Walk.{Signature, signature, signature_of, size_of}
+use Rattle.usuba_model.specs.Walk.{Signature, signature, signature_of}
 use Rattle.usuba_model.proofs.CellLemmas.{false_true}
 use Rattle.usuba_model.proofs.EntryOutcome.{IsFound, found_first, found_later, judged_passes, at_number}
 use Rattle.usuba_model.proofs.FileOutcomes.{onto, names, Pass, AllTotal, none_total, total_next, definition_answers, pass_after, findings_after, signature_name}
@@ -27,7 +25,6 @@ use Rattle.usuba_model.proofs.JudgingLemmas.{first_none, second_none}
 use Rattle.usuba_model.proofs.Knowing.{NoneHold, none_first, none_second, none_hold, node_knows, AllKnow}
 use Rattle.usuba_model.proofs.NodeOutcome.{sized_from}
 use Rattle.usuba_model.proofs.NodeSizing.{node_fits}
-use Rattle.usuba_model.proofs.Reaching.{AreSized}
 use Rattle.usuba_model.proofs.Valuing.{AreKnown}
 use Rattle.usuba_trees.specs.declared.Decl.{Decl}
 use Rattle.usuba_code.specs.Code.{Coded, coded, coded_node, code_of}
@@ -35,15 +32,14 @@ use Rattle.usuba_code.specs.CodeLaw.{Each, AnswersSame, CodeGivesValue}
 use Rattle.usuba_code.specs.declared.operation.Operation.{Operation}
 use Rattle.usuba_code.proofs.Numbering.{distinct_names}
 use Rattle.usuba_code.proofs.Running.{each_first, each_second}
-use Rattle.usuba_plan.specs.Made.{made_by, made_of, made_below, plan_outcome}
-use Rattle.usuba_plan.specs.Plans.{IsNodePlan, IsPlanOf, ArePlansOf, is_planned, CallsPlanned, AllCallsPlanned, IsPlanned}
+use Rattle.usuba_plan.specs.Made.{made_by, made_of, made_below}
+use Rattle.usuba_plan.specs.Plans.{IsPlanOf, ArePlansOf, is_planned, CallsPlanned, AllCallsPlanned}
 use Rattle.usuba_plan.specs.PlanLaw.{PlanGivesOutcome}
-use Rattle.usuba_plan.specs.declared.plans.NodePlan.{NodePlan}
 use Rattle.usuba_plan.specs.declared.plans.Plan.{Plan}
 use Rattle.usuba_plan.specs.declared.plans.Plan.TheVariants as plan
 use Rattle.usuba_plan.proofs.Callees.{made_at}
-use Rattle.usuba_plan.proofs.NodePlans.{IsSound, node_made}
-use Rattle.usuba_plan.proofs.Taking.{instance_at, no_instance}
+use Rattle.usuba_plan.proofs.NodePlans.{node_made}
+use Rattle.usuba_plan.proofs.Taking.{instance_at}
 
 each_join : {A : Type 0} (P : A → Type 0) (xs ys : List A) → Each P xs → Each P ys → Each P (xs ++ ys)
 each_join P [] ys p q = q
@@ -174,7 +170,7 @@ module _ {V : Type 0} (operators : Operators V) (law : CodeGivesValue V) (w : �
   agree_next : (earlier : List Def) → AgreeAll earlier → (d : Def) (p : Plan) → slice_get defs (length earlier) ≡ Some d
       → slice_get plans (length earlier) ≡ Some p
       → (is_planned (Some p) ≡ true → (xs : List V) → length xs ≡ (signature d).inputs
-        → made_by operators (made_below operators defs plans (length earlier)) p d xs ≡ definition_outcome operators (outcomes operators earlier) d xs)
+      → made_by operators (made_below operators defs plans (length earlier)) p d xs ≡ definition_outcome operators (outcomes operators earlier) d xs)
       → AgreeAll (d ∷ earlier)
   agree_next earlier agree d p at_defs at_plans makes name m planned xs len =
       of_test (bytes_eq (name_of d).text name) refl planned len
@@ -198,7 +194,7 @@ module _ {V : Type 0} (operators : Operators V) (law : CodeGivesValue V) (w : �
           = ap is_planned (sym at_plans) ∙ ap (λ (k : ℕ). is_planned (slice_get plans k)) (sym at) ∙ planned in
           ap (λ (k : ℕ). made_below operators defs plans (suc (length earlier)) k xs) at
           ∙ ap (λ (b : Bool). if b then made_of operators (made_below operators defs plans (length earlier)) (slice_get plans (length earlier)) (slice_get defs (length earlier)) xs
-            else made_below operators defs plans (length earlier) (length earlier) xs) (eq-eqb (length earlier) (length earlier) refl)
+          else made_below operators defs plans (length earlier) (length earlier) xs) (eq-eqb (length earlier) (length earlier) refl)
           ∙ ap (λ (o : Option Plan). made_of operators (made_below operators defs plans (length earlier)) o (slice_get defs (length earlier)) xs) at_plans
           ∙ ap (λ (o : Option Def). made_of operators (made_below operators defs plans (length earlier)) (Some p) o xs) at_defs
           ∙ makes now_planned xs (len ∙ ap (λ (s : Signature). s.inputs) chosen)
@@ -215,7 +211,7 @@ module _ {V : Type 0} (operators : Operators V) (law : CodeGivesValue V) (w : �
           = not_same (callee_number (map signature earlier) name) (length earlier) low in
           ap (λ (k : ℕ). made_below operators defs plans (suc (length earlier)) k xs) at
           ∙ ap (λ (b : Bool). if b then made_of operators (made_below operators defs plans (length earlier)) (slice_get plans (length earlier)) (slice_get defs (length earlier)) xs
-            else made_below operators defs plans (length earlier) (callee_number (map signature earlier) name) xs) differs
+          else made_below operators defs plans (length earlier) (callee_number (map signature earlier) name) xs) differs
           ∙ agree name among (ap (λ (k : ℕ). is_planned (slice_get plans k)) (sym at) ∙ planned) xs (len ∙ ap (λ (s : Signature). s.inputs) chosen)
           ∙ sym (ap (λ (b : Bool). if b then definition_outcome operators (outcomes operators earlier) d xs else outcomes operators earlier name xs) is)
         where
@@ -251,7 +247,7 @@ module _ {V : Type 0} (operators : Operators V) (law : CodeGivesValue V) (w : �
   all_agree (d ∷ rest) [] earlier sound total agree = absurd sound.of
   all_agree (d ∷ rest) (p ∷ rest_plans) earlier sound total agree =
       let here = none_first (repeated_declarations [] (declared_in d)) (counters_in d)
-          (none_first (repeated_declarations [] (declared_in d) ++ counters_in d) (repeated_names ((name_of d).text ∷ names earlier) rest) sound.distinct.1) in
+      (none_first (repeated_declarations [] (declared_in d) ++ counters_in d) (repeated_names ((name_of d).text ∷ names earlier) rest) sound.distinct.1) in
       all_agree rest rest_plans (d ∷ earlier)
       (record {
         defs_from = from_next d rest (length earlier) defs sound.defs_from;
@@ -314,12 +310,12 @@ all_at defs (d ∷ rest) earlier none from before k e less at =
 
     now : (k : ℕ) (e : Def) → k < suc (length earlier) → slice_get defs k ≡ Some e → IsAt (d ∷ earlier) k e
     now k e less at = elim (cases_lt k (length earlier)) [
-        inl below ↦ at_later earlier d none.0 k e (before k e below at)
+      | inl below ↦ at_later earlier d none.0 k e (before k e below at)
       | inr above ↦
           let same : k ≡ length earlier = omega (arith, less, above) in
           let is_d : d ≡ e = same_Some d e (sym here ∙ ap (slice_get defs) (sym same) ∙ at) in
           subst (λ (n : ℕ). IsAt (d ∷ earlier) n e) (sym same) (subst (λ (f : Def). IsAt (d ∷ earlier) (length earlier) f) is_d (at_first earlier d))
-      ]
+    ]
 
 -- a judged file assigns no cell twice
 judged_twice : (asked_width : Option ℕ) (asked_entry : Option (List ℕ)) (file : File) (width entry : ℕ)
@@ -340,14 +336,14 @@ plan_gives_outcome law operators asked_width asked_entry file width entry judged
     let from : (A : Type 0) (xs : List A) (j : ℕ) → slice_get xs j ≡ slice_get xs (0 + j)
     = λ A xs j. let same : j ≡ 0 + j = omega arith in ap (slice_get xs) same in
     let agree = all_agree operators law width some_width defs plans defs plans [] (record {
-          defs_from = from Def defs;
-          plans_from = from Plan plans;
-          of = planned.of;
-          calls = planned.calls;
-          distinct = passed.0;
-          pass = passed.1;
-          twice = judged_twice asked_width asked_entry file width entry judged;
-        }) (none_total operators width some_width) (λ name m. false_true m) in
+      defs_from = from Def defs;
+      plans_from = from Plan plans;
+      of = planned.of;
+      calls = planned.calls;
+      distinct = passed.0;
+      pass = passed.1;
+      twice = judged_twice asked_width asked_entry file width entry judged;
+    }) (none_total operators width some_width) (λ name m. false_true m) in
     let count = length_onto defs [] in
     let within = slice_get_within defs entry d at in
     let less : entry < length (onto defs []) = omega (arith, count, within) in
@@ -355,5 +351,5 @@ plan_gives_outcome law operators asked_width asked_entry file width entry judged
     sym (made_at defs plans operators elements (length (onto defs [])) entry less)
     ∙ ap (λ (k : ℕ). made_below operators defs plans (length (onto defs [])) k elements) (sym found.0)
     ∙ agree (name_of d).text found.1.0 (ap (λ (k : ℕ). is_planned (slice_get plans k)) found.0 ∙ planned.entry_planned) elements
-      (len ∙ sym (ap (λ (s : Signature). s.inputs) found.1.1))
+    (len ∙ sym (ap (λ (s : Signature). s.inputs) found.1.1))
     ∙ ap (λ (n : List ℕ). outcomes operators (onto defs []) n elements) (sym (at_number defs entry d at).1)

@@ -1,5 +1,5 @@
 -- The plans of a judged file fit.
-use Rattle.std.proofs.Common.{◌≡◌, ◌+◌, ◌-◌, ◌<◌, ◌≤◌, ◌^◌, ◌⊎◌, inl, inr, ℕ, zero, suc, Bool, true, false, not, ◌||◌, ◌==◌, List, [], ◌∷◌, ◌++◌, length, map, get_or, Option, Some, None, refl, sym, ap, ◌∙◌, subst, arith, nat_lt, nat_le}
+use Rattle.std.proofs.Common.{◌≡◌, ◌+◌, ◌-◌, ◌<◌, ◌≤◌, ◌^◌, inl, inr, ℕ, suc, Bool, true, false, not, ◌||◌, ◌==◌, List, [], ◌∷◌, ◌++◌, length, map, Option, Some, None, refl, sym, ap, ◌∙◌, subst, arith, nat_lt, nat_le}
 use Rattle.std.specs.Prelude.{bytes_eq, slice_get, if◌then◌else◌}
 use Rattle.std.specs.List.{list_any, list_all}
 use Rattle.std.proofs.lemmas.Bool.{eqb-true, ltb-false, leb-false, cases_lt, and_parts}
@@ -9,39 +9,33 @@ use Rattle.std.proofs.lemmas.Slice.Eq.{bytes_eq-Decides}
 use Rattle.usuba_trees.specs.declared.Decl.{Decl}
 use Rattle.usuba_trees.specs.declared.Def.{Def}
 use Rattle.usuba_trees.specs.declared.Def.TheVariants as def
-use Rattle.usuba_trees.specs.declared.Grid.{Grid}
-use Rattle.usuba_trees.specs.declared.File.{File}
 use Rattle.usuba_model.specs.declared.fault.Fault.{Fault}
 use Rattle.usuba_model.specs.Cells.{Cell}
-use Rattle.usuba_model.specs.Entries.{has_wrong_entries, is_bad_table, grid_fault}
+use Rattle.usuba_model.specs.Entries.{has_wrong_entries, is_bad_table}
 use Rattle.usuba_model.specs.Names.{is_name_among, name_of, names_of, unknown_in_definition}
 use Rattle.usuba_model.specs.Numbers.{cell_number, callee_number, is_declared}
 use Rattle.usuba_model.specs.Operations.{calls_of}
 use Rattle.usuba_model.specs.Rounds.{Operators}
 use Rattle.usuba_model.specs.Shapes.{all_elements}
-use Rattle.usuba_model.specs.Unrolled.{Expression, cells, number, nothing, joined, call, complement, operation, shift, refresh, Instance, left_cells, declarations, unrolled}
-use Rattle.usuba_model.specs.Walk.{Signature, signature, signature_of, size_of}
+use Rattle.usuba_model.specs.Unrolled.{Expression, cells, number, nothing, joined, call, complement, operation, shift, refresh, left_cells, declarations, unrolled}
+use Rattle.usuba_model.specs.Walk.{signature, signature_of}
 use Rattle.usuba_model.proofs.CellLemmas.{false_true}
 use Rattle.usuba_model.proofs.EntryOutcome.{judged_passes}
-use Rattle.usuba_model.proofs.FileOutcomes.{onto, names, Pass, pass_after, signature_name}
+use Rattle.usuba_model.proofs.FileOutcomes.{names, Pass, pass_after, signature_name}
 use Rattle.usuba_model.proofs.JudgingLemmas.{first_none}
 use Rattle.usuba_model.proofs.Knowing.{none_first, node_knows}
 use Rattle.usuba_model.proofs.NodeOutcome.{sized_from}
 use Rattle.usuba_model.proofs.NodeSizing.{node_fits}
 use Rattle.usuba_model.proofs.Sizing.{IsSized}
 use Rattle.usuba_model.proofs.Valuing.{AreKnown}
-use Rattle.usuba_code.specs.Code.{Coded, coded, coded_at, coded_node, code_of, read_cell}
+use Rattle.usuba_code.specs.Code.{Coded, coded, coded_at, code_of, read_cell}
 use Rattle.usuba_code.specs.CodeLaw.{Each}
-use Rattle.usuba_code.specs.declared.operation.Operation.{Operation}
 use Rattle.usuba_code.proofs.Numbering.{number_below}
-use Rattle.ready_order.specs.Numbered.{left_numbers}
 use Rattle.ready_order.proofs.CodedNumbers.{left_cells_numbers}
 use Rattle.ready_order.proofs.Declared.{node_declared}
-use Rattle.usuba_plan.specs.Fit.{inputs_of, inputs_at, OperationFits, InstanceFits, NodeFits, TableFits, PlanFits, AllFit}
-use Rattle.usuba_plan.specs.Made.{entries_of}
-use Rattle.usuba_plan.specs.Plans.{IsNodePlan, IsPlanOf, ArePlansOf, IsPlanned}
+use Rattle.usuba_plan.specs.Fit.{inputs_of, inputs_at, OperationFits, InstanceFits, TableFits, PlanFits}
+use Rattle.usuba_plan.specs.Plans.{IsPlanOf, ArePlansOf}
 use Rattle.usuba_plan.specs.PlanLaw.{PlansFit}
-use Rattle.usuba_plan.specs.declared.plans.NodePlan.{NodePlan}
 use Rattle.usuba_plan.specs.declared.plans.Plan.{Plan}
 use Rattle.usuba_plan.specs.declared.plans.Plan.TheVariants as plan
 use Rattle.usuba_plan.proofs.Eaches.{each_append}
@@ -69,7 +63,7 @@ inputs_known defs (d ∷ earlier) placed name m = of_test (bytes_eq (signature d
 
     of_test : (b : Bool) → bytes_eq (signature d).name name ≡ b
         → (is_name_among (names earlier) name ≡ true
-          → inputs_at defs (callee_number (map signature earlier) name) ≡ (signature_of (map signature earlier) name).inputs)
+        → inputs_at defs (callee_number (map signature earlier) name) ≡ (signature_of (map signature earlier) name).inputs)
         → inputs_at defs (if b then length (map signature earlier) else callee_number (map signature earlier) name)
         ≡ (if b then signature d else signature_of (map signature earlier) name).inputs
     of_test true is before =
@@ -225,17 +219,17 @@ module _ (w : ℕ) (some_width : 0 < w) (defs : List Def) (plans : List Plan) wh
       let e_at : slice_get defs (length earlier) ≡ Some e = sym (from 0 ∙ ap (slice_get defs) first) in
       let q_at : slice_get plans (length earlier) ≡ Some q = sym (from' 0 ∙ ap (slice_get plans) first) in
       elim (cases_lt (length earlier) at_number) [
-        inl above ↦
-          rest_fit rest rest_plans (e ∷ earlier) (e_at, placed)
-          (λ j. let same : length earlier + suc j ≡ suc (length earlier) + j = omega arith in from (suc j) ∙ ap (slice_get defs) same)
-          (λ j. let same : length earlier + suc j ≡ suc (length earlier) + j = omega arith in from' (suc j) ∙ ap (slice_get plans) same)
-          of.1 (pass_after no_operators w some_width earlier e rest pass) at_number p d (omega (arith, above)) at at'
-      | inr below ↦
-          let same : length earlier ≡ at_number = omega (arith, le, below) in
-          let is_p : q ≡ p = same_Some q p (sym q_at ∙ ap (slice_get plans) same ∙ at) in
-          let is_d : e ≡ d = same_Some e d (sym e_at ∙ ap (slice_get defs) same ∙ at') in
-          subst (λ (r : Plan). PlanFits w defs r d) is_p
-          (subst (λ (f : Def). PlanFits w defs q f) is_d (plan_fits earlier placed e rest pass q of.0))
+        | inl above ↦
+            rest_fit rest rest_plans (e ∷ earlier) (e_at, placed)
+            (λ j. let same : length earlier + suc j ≡ suc (length earlier) + j = omega arith in from (suc j) ∙ ap (slice_get defs) same)
+            (λ j. let same : length earlier + suc j ≡ suc (length earlier) + j = omega arith in from' (suc j) ∙ ap (slice_get plans) same)
+            of.1 (pass_after no_operators w some_width earlier e rest pass) at_number p d (omega (arith, above)) at at'
+        | inr below ↦
+            let same : length earlier ≡ at_number = omega (arith, le, below) in
+            let is_p : q ≡ p = same_Some q p (sym q_at ∙ ap (slice_get plans) same ∙ at) in
+            let is_d : e ≡ d = same_Some e d (sym e_at ∙ ap (slice_get defs) same ∙ at') in
+            subst (λ (r : Plan). PlanFits w defs r d) is_p
+            (subst (λ (f : Def). PlanFits w defs q f) is_d (plan_fits earlier placed e rest pass q of.0))
       ]
 
 -- the plans of a judged file fit

@@ -1,10 +1,9 @@
 -- Where no cell is assigned twice, each order of the instances assigns each cell for the first time.
-use Rattle.std.proofs.Common.{◌≡◌, ◌⊎◌, inl, inr, ◌<◌, ◌≤◌, ℕ, zero, suc, Bool, true, false, ◌||◌, ◌==◌, List, [], ◌∷◌, ◌++◌, length, map, get_or, refl, sym, ap, ◌∙◌, subst, arith, append_assoc}
+use Rattle.std.proofs.Common.{◌≡◌, ◌⊎◌, inl, inr, ◌<◌, ℕ, zero, suc, Bool, true, false, ◌||◌, ◌==◌, List, [], ◌∷◌, ◌++◌, length, map, refl, sym, ap, ◌∙◌, arith}
 use Rattle.std.specs.Prelude.{flat_map}
-use Rattle.std.specs.List.{list_any}
 use Rattle.std.proofs.lemmas.Bool.{eqb-true, eq-eqb, cases_order}
 use Rattle.std.proofs.lemmas.List.Folds.{list_any-append}
-use Rattle.usuba_model.specs.Assignments.{holds_again, assigned_again, twice_in}
+use Rattle.usuba_model.specs.Assignments.{holds_again, assigned_again}
 use Rattle.usuba_model.specs.Cells.{Cell, same_cell, is_among}
 use Rattle.usuba_model.specs.Unrolled.{Target, Instance, target_cells, left_cells}
 use Rattle.usuba_model.proofs.CellLemmas.{false_true, same_cells}
@@ -13,7 +12,7 @@ use Rattle.usuba_model.proofs.Ordering.{IsIn, AreIn, AreFresh}
 use Rattle.usuba_code.specs.CodeLaw.{Each}
 use Rattle.ready_order.specs.Numbered.{is_one_of}
 use Rattle.ready_order.specs.Order.{AreDistinct}
-use Rattle.usuba_plan.proofs.Taking.{instance_at, no_instance}
+use Rattle.usuba_plan.proofs.Taking.{instance_at}
 
 either_false : (p q : Bool) → (p || q) ≡ false → (p ≡ false) × (q ≡ false)
 either_false true q e = false_true (sym e)
@@ -60,8 +59,8 @@ targets_apart taken [] b none = (λ c m. false_true m, (taken, λ c m. m, none))
 targets_apart taken (t ∷ a) b none =
     let rest = targets_apart (t.cells ++ taken) a b none.1 in (
       λ c m. joined_cases t.cells (target_cells a) c m
-        (λ e. not_again taken t.cells none.0 c e)
-        (λ e. (joined_none t.cells taken c (rest.0 c e)).1),
+          (λ e. not_again taken t.cells none.0 c e)
+          (λ e. (joined_none t.cells taken c (rest.0 c e)).1),
       (
         rest.1.0,
         λ c m. rest.1.1 c (moved c m),
@@ -73,8 +72,8 @@ targets_apart taken (t ∷ a) b none =
     moved c m =
         joined_cases (t.cells ++ target_cells a) taken c m
         (λ e. joined_cases t.cells (target_cells a) c e
-          (λ f. joined_second (target_cells a) (t.cells ++ taken) c (joined_first t.cells taken c f))
-          (λ f. joined_first (target_cells a) (t.cells ++ taken) c f))
+        (λ f. joined_second (target_cells a) (t.cells ++ taken) c (joined_first t.cells taken c f))
+        (λ f. joined_first (target_cells a) (t.cells ++ taken) c f))
         (λ e. joined_second (target_cells a) (t.cells ++ taken) c (joined_second t.cells taken c e))
 
 -- instances that are at no fault after some cells assign each cell for the first time
@@ -85,10 +84,10 @@ fresh_in_order (i ∷ instances) taken later within none =
     let parts = targets_apart later i.targets (flat_map (λ instance. instance.targets) instances) none in (
       λ c m. not_true (is_among taken c) (λ e. false_true (sym (parts.0 c m) ∙ within c e)),
       fresh_in_order instances (left_cells i ++ taken) parts.1.0
-        (λ c m. parts.1.1 c (joined_cases (left_cells i) taken c m
+          (λ c m. parts.1.1 c (joined_cases (left_cells i) taken c m
           (λ e. joined_first (target_cells i.targets) later c e)
           (λ e. joined_second (target_cells i.targets) later c (within c e))))
-        parts.1.2,
+          parts.1.2,
     )
 
 fresh_at : (instances : List Instance) (known : List Cell) → AreFresh known instances → (k : ℕ) → k < length instances
@@ -119,7 +118,7 @@ module _ (instances : List Instance) (inputs : List Cell) (fresh : AreFresh inpu
   order_fresh (k ∷ order) within distinct known tells = (
     λ c m. not_true (is_among known c) (λ e. apart c m (tells c e)),
     order_fresh order within.1 distinct.1 (left_cells (instance_at instances k) ++ known)
-      (λ c m. joined_cases (left_cells (instance_at instances k)) known c m
+        (λ c m. joined_cases (left_cells (instance_at instances k)) known c m
         (λ e. inr (k, distinct.0, within.0, e))
         (λ e. later c (tells c e))),
   )

@@ -1,14 +1,14 @@
 -- The plan of a node gives what the rounds of the node give.
-use Rattle.std.proofs.Common.{◌≡◌, ◌⊎◌, inl, inr, ◌+◌, ◌<◌, ◌≤◌, ℕ, zero, suc, Bool, true, false, ◌||◌, ◌&&◌, ◌==◌, List, [], ◌∷◌, ◌++◌, length, map, get_or, Option, Some, None, refl, sym, ap, ◌∙◌, subst, arith, append_assoc}
+use Rattle.std.proofs.Common.{◌≡◌, inl, ◌+◌, ◌<◌, ℕ, zero, suc, Bool, true, false, ◌||◌, ◌==◌, List, [], ◌∷◌, ◌++◌, length, map, Option, Some, refl, sym, ap, ◌∙◌, subst, arith, append_assoc}
 use Rattle.std.specs.Prelude.{option_and_then, flat_map, if◌then◌else◌}
-use Rattle.std.specs.List.{list_any, list_all, range_with_len}
+use Rattle.std.specs.List.{list_all, range_with_len}
 use Rattle.std.proofs.lemmas.Bool.{eqb-true, eq-eqb, and_parts, and_from}
 use Rattle.std.proofs.lemmas.List.{length-append, length-map}
 use Rattle.std.proofs.lemmas.List.FromFn.{length-range_with_len}
 use Rattle.std.proofs.lemmas.List.Folds.{list_all-append}
 use Rattle.usuba_trees.specs.declared.Decl.{Decl}
 use Rattle.usuba_trees.specs.declared.Node.{Node}
-use Rattle.usuba_model.specs.Assignments.{cells_read, assigned_cells, read_cells, twice_in}
+use Rattle.usuba_model.specs.Assignments.{cells_read, twice_in}
 use Rattle.usuba_model.specs.Cells.{Cell, same_cell, is_among, cells_of, declared_cells}
 use Rattle.usuba_model.specs.Numbers.{cell_number, is_declared, AreDistinct}
 use Rattle.usuba_model.specs.Operations.{calls_of}
@@ -27,7 +27,6 @@ use Rattle.usuba_code.specs.Machine.{NumberedCallees, NumberedEnvironment}
 use Rattle.usuba_code.proofs.Numbering.{cell_declared, input_numbers, output_numbers}
 use Rattle.ready_order.specs.Numbered.{is_one_of}
 use Rattle.ready_order.specs.Order.{IsReadyOrder, AreReady}
-use Rattle.ready_order.proofs.CodedNumbers.{AreDeclared}
 use Rattle.ready_order.proofs.Declared.{node_declared}
 use Rattle.usuba_plan.specs.Made.{given_at, taken_in_order, made_by_node}
 use Rattle.usuba_plan.specs.Plans.{IsNodePlan}
@@ -131,16 +130,16 @@ module _ (node : Node) (distinct : AreDistinct (declarations node)) where
       (λ c m. cell_declared (declarations node) distinct c
       (ap (λ (cs : List Cell). is_among cs c) (declared_append (node.inputs ++ node.outputs) node.locals)
       ∙ among_first (declared_cells (node.inputs ++ node.outputs)) (declared_cells node.locals) c
-        (ap (λ (cs : List Cell). is_among cs c) (declared_append node.inputs node.outputs)
-        ∙ among_first (declared_cells node.inputs) (declared_cells node.outputs) c m)))
+      (ap (λ (cs : List Cell). is_among cs c) (declared_append node.inputs node.outputs)
+      ∙ among_first (declared_cells node.inputs) (declared_cells node.outputs) c m)))
 
   outputs_declared : AllDeclared (declarations node) (declared_cells node.outputs)
   outputs_declared = all_from (declarations node) (declared_cells node.outputs)
       (λ c m. cell_declared (declarations node) distinct c
       (ap (λ (cs : List Cell). is_among cs c) (declared_append (node.inputs ++ node.outputs) node.locals)
       ∙ among_first (declared_cells (node.inputs ++ node.outputs)) (declared_cells node.locals) c
-        (ap (λ (cs : List Cell). is_among cs c) (declared_append node.inputs node.outputs)
-        ∙ among_second (declared_cells node.inputs) (declared_cells node.outputs) c m)))
+      (ap (λ (cs : List Cell). is_among cs c) (declared_append node.inputs node.outputs)
+      ∙ among_second (declared_cells node.inputs) (declared_cells node.outputs) c m)))
 
   -- the inputs are the first cells
   start_agrees : {V : Type 0} (vs : List V) → length vs ≡ all_elements node.inputs
@@ -200,27 +199,27 @@ module _ {V : Type 0} (w : ℕ) (known_names : List (List ℕ)) (signatures : Li
       let order = p.order.items in
       let ready : IsReadyOrder (all_elements node.inputs) (coded_node signatures node) order
       = subst (λ (n : ℕ). IsReadyOrder n (coded_node signatures node) order) is.inputs
-        (subst (λ (done : List Coded). IsReadyOrder p.inputs done order) is.table is.order) in
+      (subst (λ (done : List Coded). IsReadyOrder p.inputs done order) is.table is.order) in
       let taken = order_taken sound order ready vs len in
       let count : length (coded_node signatures node) ≡ length instances = length-map instances (coded signatures declared) in
       let within : Each (λ k. k < length instances) order
       = each_from (λ k. k < length instances) order (λ k m. subst (λ n. k < n) count (ready.within k m)) in
       let fresh = order_fresh instances (declared_cells node.inputs)
-          (fresh_in_order instances (declared_cells node.inputs) (declared_cells node.inputs) (λ c m. m) sound.twice)
-          order within ready.distinct (declared_cells node.inputs) (λ c m. inl m) in
+      (fresh_in_order instances (declared_cells node.inputs) (declared_cells node.inputs) (λ c m. m) sound.twice)
+      order within ready.distinct (declared_cells node.inputs) (λ c m. inl m) in
       let made : List Coded → ℕ → ℕ → Option (List V)
       = λ done i o. option_and_then (λ environment. whole (map environment (range_with_len i o)))
-          (taken_in_order operators answers done order (element_at vs)) in
+      (taken_in_order operators answers done order (element_at vs)) in
       ap (λ (done : List Coded). made done p.inputs p.outputs) is.table
       ∙ ap (λ (i : ℕ). made (coded_node signatures node) i p.outputs) is.inputs
       ∙ ap (λ (o : ℕ). made (coded_node signatures node) (all_elements node.inputs) o) is.outputs
       ∙ ap (option_and_then (λ environment. whole (map environment (range_with_len (all_elements node.inputs) (all_elements node.outputs))))) taken.by_number
       ∙ ap (λ (ns : List ℕ). whole (map taken.numbered_end ns)) (sym (output_numbers node sound.distinct))
       ∙ ap (λ (os : List (Option V)). whole os)
-        (map_agree declared taken.numbered_end taken.end taken.agree (declared_cells node.outputs) (outputs_declared node sound.distinct))
+      (map_agree declared taken.numbered_end taken.end taken.agree (declared_cells node.outputs) (outputs_declared node sound.distinct))
       ∙ sym (outcome_in_order operators callees instances (map (instance_at instances) order) (declared_cells node.inputs) vs taken.end
-        (declared_cells node.outputs)
-        (length-map order (instance_at instances) ∙ ready.count ∙ count)
-        (order_in instances order within)
-        (all_ordered instances order (λ k less. ready.complete k (subst (λ n. k < n) (sym count) less)))
-        fresh taken.by_name)
+      (declared_cells node.outputs)
+      (length-map order (instance_at instances) ∙ ready.count ∙ count)
+      (order_in instances order within)
+      (all_ordered instances order (λ k less. ready.complete k (subst (λ n. k < n) (sym count) less)))
+      fresh taken.by_name)

@@ -10,7 +10,7 @@ use Rattle.usuba_trees.specs.declared.Def.{Def}
 use Rattle.usuba_model.specs.Rounds.{Operators, both, whole, element_at, permuted}
 use Rattle.usuba_code.specs.Code.{Coded, coded_at}
 use Rattle.usuba_code.specs.CodeLaw.{Each}
-use Rattle.usuba_code.specs.Machine.{NumberedCallees, NumberedEnvironment, run_code}
+use Rattle.usuba_code.specs.Machine.{NumberedEnvironment, run_code}
 use Rattle.ready_order.specs.Numbered.{left_numbers}
 use Rattle.usuba_plan.specs.Fit.{InstanceFits, NodeFits, AllFit}
 use Rattle.usuba_plan.specs.Made.{given_at, with_given, taken, taken_in_order, made_by_node, made_below}
@@ -21,10 +21,9 @@ use Rattle.usuba_plan.specs.Store.{Store, Gives, Keeps, meanings}
 use Rattle.usuba_plan.specs.declared.plans.NodePlan.{NodePlan}
 use Rattle.usuba_plan.specs.declared.plans.Plan.{Plan}
 use Rattle.usuba_code.specs.declared.operation.Operation.{Operation}
-use Rattle.usuba_plan.proofs.Eaches.{each_at, each_push, each_then}
+use Rattle.usuba_plan.proofs.Eaches.{each_at, each_then}
 use Rattle.usuba_plan.proofs.Picking.{map_there, false_true}
-use Rattle.usuba_plan.proofs.Splitting.{then_there}
-use Rattle.usuba_plan.proofs.Stores.{kept_itself, kept_on, kept_within, held_on, same_meanings, cells_held_on, same_environment}
+use Rattle.usuba_plan.proofs.Stores.{kept_itself, kept_on, kept_within, cells_held_on, same_environment}
 
 order_more : (callees : ℕ → ℕ) (done : List Coded) (order : List ℕ) (i k : ℕ) → i < length order → k ≡ get_or order i k
     → order_room callees done (take (i + 1) order) ≡ order_room callees done (take i order) + code_room callees (coded_at done k).code
@@ -40,7 +39,6 @@ order_part callees done order zero = omega arith
 order_part callees done [] (suc i) = omega arith
 order_part callees done (k ∷ order) (suc i) = let later = order_part callees done order i in omega (arith, later)
 
-
 -- the number of an instance is that of one in the table, which fits
 pub within_at : (defs : List Def) (w : ℕ) (node : NodePlan) (i k : ℕ) → NodeFits w defs node → i < length node.order.items → k ≡ get_or node.order.items i k
     → k < length node.table.done
@@ -52,7 +50,6 @@ pub fits_at : (defs : List Def) (w : ℕ) (node : NodePlan) (i k : ℕ) → Node
 fits_at defs w node i k fits less is =
     subst (λ (j : ℕ). InstanceFits w defs node.cells (coded_at node.table.done j)) (sym is)
     (each_at (λ j. InstanceFits w defs node.cells (coded_at node.table.done j)) node.order.items i k less fits.instances)
-
 
 module _ {H V : Type 0} where
   -- what handles at cells stand for
@@ -187,7 +184,7 @@ module _ {H V : Type 0} where
     left_at : (old now : Store H V) (node : NodePlan) (inputs : List H) (cells : List (Option H)) (i k : ℕ) → i < length node.order.items
         → k ≡ get_or node.order.items i k → Taking old now node inputs cells i
         → option_and_then (taken_in_order old.operators (made_below old.operators defs plans number) node.table.done (drop (i + 1) node.order.items))
-          (taken old.operators (made_below old.operators defs plans number) (coded_at node.table.done k) (environment_of now cells))
+        (taken old.operators (made_below old.operators defs plans number) (coded_at node.table.done k) (environment_of now cells))
         ≡ taken_in_order old.operators (made_below old.operators defs plans number) node.table.done node.order.items (element_at (meanings old inputs))
     left_at old now node inputs cells i k less is t =
         let run : List ℕ → Option (NumberedEnvironment V)
@@ -218,7 +215,7 @@ module _ {H V : Type 0} where
         let instance = coded_at node.table.done k in
         let there : IsSome (taken old.operators (made_below old.operators defs plans number) instance (environment_of now cells))
         = then_environment (taken old.operators (made_below old.operators defs plans number) instance (environment_of now cells))
-            (subst (λ (q : Option (NumberedEnvironment V)). IsSome q) (sym (left_at old now node inputs cells i k less is t)) (all_there old node inputs can)) in
+        (subst (λ (q : Option (NumberedEnvironment V)). IsSome q) (sym (left_at old now node inputs cells i k less is t)) (all_there old node inputs can)) in
         record {
           fits = subst (λ (w : ℕ). AllFit w defs plans) (sym t.kept.width) can.fits;
           code_fits = (fits_at defs now.width node i k (subst (λ (w : ℕ). NodeFits w defs node) (sym t.kept.width) can.node_fits) less is).code;
@@ -258,11 +255,11 @@ module _ {H V : Type 0} where
         = same_environment (code_room callees instance.code) now next kept cells t.cells_held in
         let after_is : environment_of next after ≡ with_given (left_numbers instance) (meanings next stack) (environment_of now cells)
         = assigned_means next cells after (left_numbers instance) stack assigned
-          ∙ ap (λ (e : NumberedEnvironment V). with_given (left_numbers instance) (meanings next stack) e) now_environment in
+        ∙ ap (λ (e : NumberedEnvironment V). with_given (left_numbers instance) (meanings next stack) e) now_environment in
         let taken_is : taken old.operators (made_below old.operators defs plans number) instance (environment_of now cells) ≡ Some (environment_of next after)
         = sym (same_taken old now (order_room callees node.table.done (take i node.order.items)) t.kept instance (environment_of now cells))
-          ∙ ap (option_map (λ elements. with_given (left_numbers instance) elements (environment_of now cells))) gives.means
-          ∙ ap (λ (e : NumberedEnvironment V). Some e) (sym after_is) in
+        ∙ ap (option_map (λ elements. with_given (left_numbers instance) elements (environment_of now cells))) gives.means
+        ∙ ap (λ (e : NumberedEnvironment V). Some e) (sym after_is) in
         record {
           kept = subst (λ (m : ℕ). Keeps m old next) (sym (order_more callees node.table.done node.order.items i k less is))
               (kept_on (order_room callees node.table.done (take i node.order.items)) (code_room callees instance.code) old now next t.kept kept);
@@ -420,11 +417,11 @@ module _ {H V : Type 0} (defs : List Def) (plans : List Plan) (number : ℕ) (ol
       = λ cs ops from. run_code now.operators (made_below now.operators defs plans number) (environment_of now cs) ops (meanings now from) in
       let gives' : Gives next stack (run cells (coded_at node.table.done k).code [])
       = subst (λ (from : List H). Gives next stack (run cells (coded_at node.table.done k).code from)) first_is
-        (subst (λ (ops : List Operation). Gives next stack (run cells ops first)) code_is
-        (subst (λ (cs : List (Option H)). Gives next stack (run cs code first)) slice_is gives)) in
+      (subst (λ (ops : List Operation). Gives next stack (run cells ops first)) code_is
+      (subst (λ (cs : List (Option H)). Gives next stack (run cs code first)) slice_is gives)) in
       take_next defs plans number old now next node inputs stack cells after i k can less is t gives'
       (subst (λ (ops : List Operation). Keeps (code_room (room_below defs plans number) ops) now next) code_is kept)
       (λ n. assigned n
-        ∙ ap (λ (ms : List ℕ). with_given ms hs (handle_at cells) n) ns_is
-        ∙ ap (λ (xs : List H). with_given (left_numbers (coded_at node.table.done k)) xs (handle_at cells) n) hs_is)
+      ∙ ap (λ (ms : List ℕ). with_given ms hs (handle_at cells) n) ns_is
+      ∙ ap (λ (xs : List H). with_given (left_numbers (coded_at node.table.done k)) xs (handle_at cells) n) hs_is)
       same

@@ -1,5 +1,5 @@
 -- Code that is run, one operation after another.
-use Rattle.std.proofs.Common.{◌≡◌, ℕ, zero, suc, ◌+◌, ◌-◌, ◌*◌, ◌<◌, ◌≤◌, List, [], ◌∷◌, ◌++◌, length, map, take, drop, get_or, Option, Some, None, refl, sym, ap, ◌∙◌, subst, arith}
+use Rattle.std.proofs.Common.{◌≡◌, ℕ, zero, suc, ◌+◌, ◌-◌, ◌<◌, ◌≤◌, List, [], ◌∷◌, ◌++◌, length, take, drop, get_or, Option, Some, refl, sym, ap, ◌∙◌, subst, arith}
 use Rattle.std.specs.Prelude.{option_map, option_and_then, IsSome}
 use mathlib.Core.Path.{fun_ext}
 use Rattle.std.proofs.lemmas.List.{length-map, length-drop, at_drop_more, at_drop_all, take_more, map-append}
@@ -21,7 +21,7 @@ use Rattle.usuba_plan.proofs.Callees.{room_at, made_at, made_within}
 use Rattle.usuba_plan.proofs.Eaches.{each_at, each_drop, each_take, each_push}
 use Rattle.usuba_plan.proofs.Picking.{map_there}
 use Rattle.usuba_plan.proofs.Splitting.{then_there, last_enough, two_enough, answer_enough, answer_handles, put_on, gives_as}
-use Rattle.usuba_plan.proofs.Stores.{kept_itself, kept_on, kept_within, held_on, same_meanings, cells_held_on, same_environment}
+use Rattle.usuba_plan.proofs.Stores.{kept_itself, kept_on, kept_within, cells_held_on, same_environment}
 
 room_more : (callees : ℕ → ℕ) (code : List Operation) (i : ℕ) (o : Operation) → i < length code → o ≡ get_or code i o
     → code_room callees (take (i + 1) code) ≡ code_room callees (take i code) + operation_room callees o
@@ -36,7 +36,6 @@ room_part : (callees : ℕ → ℕ) (code : List Operation) (i : ℕ) → code_r
 room_part callees code zero = omega arith
 room_part callees [] (suc i) = omega arith
 room_part callees (o ∷ code) (suc i) = let later = room_part callees code i in omega (arith, later)
-
 
 pub call_same : {V : Type 0} (defs : List Def) (plans : List Plan) (operators : Operators V) (number callee inputs : ℕ) (vs : List V) → callee < number
     → with_answer inputs (made_below operators defs plans number callee) vs ≡ with_answer inputs (plan_outcome operators defs plans callee) vs
@@ -80,8 +79,8 @@ module _ {H V : Type 0} where
         → CanRunOperation s defs plans number (make.Call callee inputs) cells stack → callee < number
     call_below s number callee inputs cells stack can =
         let enough : inputs ≤ length stack =
-            (let e = answer_enough inputs (made_below s.operators defs plans number callee) (meanings s stack) can.makes in
-            let len = length-map stack s.meaning in omega (arith, e, len)) in
+        (let e = answer_enough inputs (made_below s.operators defs plans number callee) (meanings s stack) can.makes in
+        let len = length-map stack s.meaning in omega (arith, e, len)) in
         made_within defs plans s.operators (meanings s (drop (length stack - inputs) stack)) number callee
         (map_there (λ made. meanings s (take (length stack - inputs) stack) ++ made)
         (made_below s.operators defs plans number callee (meanings s (drop (length stack - inputs) stack)))
@@ -153,7 +152,7 @@ module _ {H V : Type 0} where
       left_at : (old now : Store H V) (code : List Operation) (cells : List (Option H)) (first stack : List H) (i : ℕ) (o : Operation)
           → i < length code → o ≡ get_or code i o → Running old now code cells first stack i
           → option_and_then (run_code old.operators (made_below old.operators defs plans number) (environment_of old cells) (drop (i + 1) code))
-            (step_of defs plans number old.operators (environment_of old cells) o (meanings now stack))
+          (step_of defs plans number old.operators (environment_of old cells) o (meanings now stack))
           ≡ run_code old.operators (made_below old.operators defs plans number) (environment_of old cells) code (meanings old first)
       left_at old now code cells first stack i o less is r =
           let run : List Operation → Option (List V)
@@ -168,7 +167,7 @@ module _ {H V : Type 0} where
           let fits_at : OperationFits old.width defs o
           = subst (λ (p : Operation). OperationFits old.width defs p) (sym is) (each_at (OperationFits old.width defs) code i o less can.code_fits) in
           let whole : IsSome (option_and_then (run_code old.operators (made_below old.operators defs plans number) (environment_of old cells) (drop (i + 1) code))
-              (step_of defs plans number old.operators (environment_of old cells) o (meanings now stack)))
+          (step_of defs plans number old.operators (environment_of old cells) o (meanings now stack)))
           = subst (λ (q : Option (List V)). IsSome q) (sym (left_at old now code cells first stack i o less is r)) can.makes in
           record {
             fits = subst (λ (w : ℕ). AllFit w defs plans) (sym r.kept.width) can.fits;

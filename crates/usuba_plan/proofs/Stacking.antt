@@ -1,15 +1,15 @@
 -- What is pushed on a stack, one handle after another.
-use Rattle.std.proofs.Common.{◌≡◌, ℕ, ◌+◌, ◌*◌, ◌-◌, ◌<◌, ◌≤◌, List, [], ◌∷◌, ◌++◌, length, map, take, drop, get_or, Option, Some, None, refl, sym, ap, ◌∙◌, subst, arith, append_assoc}
-use Rattle.std.proofs.lemmas.List.{append-nil, map-append, at_drop_more, at_drop_all, take-map, length-map, get_or_read}
+use Rattle.std.proofs.Common.{◌≡◌, ℕ, ◌+◌, ◌*◌, ◌<◌, ◌≤◌, List, [], ◌∷◌, ◌++◌, length, map, drop, get_or, Some, refl, sym, ap, ◌∙◌, subst, arith, append_assoc}
+use Rattle.std.proofs.lemmas.List.{append-nil, map-append, at_drop_more, at_drop_all}
 use Rattle.usuba_code.specs.CodeLaw.{Each}
 use Rattle.usuba_model.specs.Rounds.{Operators, element_by_element}
 use Rattle.usuba_model.specs.Walk.{weight}
 use Rattle.usuba_trees.specs.declared.BitOp.{BitOp}
 use Rattle.usuba_plan.specs.Store.{Store, Made, Gives, Keeps, meanings}
-use Rattle.usuba_plan.specs.State.Handles.{unary_of, UnaryFits}
+use Rattle.usuba_plan.specs.State.Handles.{unary_of}
 use Rattle.usuba_plan.specs.declared.stack.Unary.{Unary}
 use Rattle.usuba_plan.proofs.Eaches.{each_push, each_at}
-use Rattle.usuba_plan.proofs.Stores.{kept_itself, kept_within, kept_on, held_on, same_meanings}
+use Rattle.usuba_plan.proofs.Stores.{kept_itself, kept_on, held_on, same_meanings}
 
 -- the stack and what is still to be pushed are the whole
 pub record Pushing {H V : Type 0} (most : ℕ) (old now : Store H V) (stack : List H) (rest whole : List V) : Type 0 where

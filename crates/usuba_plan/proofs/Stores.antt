@@ -1,11 +1,9 @@
 -- What a store keeps, step by step.
-use Rattle.std.proofs.Common.{◌≡◌, ℕ, ◌+◌, ◌≤◌, List, [], ◌∷◌, ◌++◌, length, map, take, drop, Option, Some, None, refl, sym, ap, ◌∙◌, subst, arith}
-use Rattle.std.specs.Prelude.{option_map, slice_get}
-use Rattle.std.proofs.lemmas.Option.{none-some}
+use Rattle.std.proofs.Common.{◌≡◌, ℕ, ◌+◌, ◌≤◌, List, [], ◌∷◌, Option, Some, None, refl, sym, ap, ◌∙◌, arith}
+use Rattle.std.specs.Prelude.{option_map}
 use mathlib.Core.Path.{fun_ext}
 use Rattle.usuba_code.specs.CodeLaw.{Each}
-use Rattle.usuba_code.specs.Machine.{NumberedEnvironment}
-use Rattle.usuba_plan.specs.Store.{Store, Made, Gives, Keeps, meanings}
+use Rattle.usuba_plan.specs.Store.{Store, Gives, Keeps, meanings}
 use Rattle.usuba_plan.specs.State.Handles.{handle_at, environment_of, CellsHeld}
 
 module _ {H V : Type 0} where

@@ -1,12 +1,11 @@
 -- The instances of a node, taken in a ready order over numbered cells, give what they give over named cells.
-use Rattle.std.proofs.Common.{◌≡◌, ◌<◌, ◌≤◌, ℕ, zero, suc, Bool, true, false, ◌||◌, ◌&&◌, ◌==◌, List, [], ◌∷◌, ◌++◌, length, map, get_or, Option, Some, None, refl, sym, ap, ◌∙◌, subst, arith}
+use Rattle.std.proofs.Common.{◌≡◌, ℕ, zero, suc, Bool, true, false, ◌&&◌, List, [], ◌∷◌, ◌++◌, map, get_or, Option, Some, None, refl, sym, ap, ◌∙◌, subst}
 use Rattle.std.specs.Prelude.{option_map, option_and_then, if◌then◌else◌}
 use Rattle.std.specs.List.{list_all}
 use Rattle.std.specs.Option.{option_or}
 use Rattle.std.proofs.lemmas.Bool.{and_parts}
 use Rattle.std.proofs.lemmas.List.{map-append}
 use Rattle.std.proofs.lemmas.List.Folds.{list_all-append}
-use Rattle.std.proofs.lemmas.Option.{none-some}
 use Rattle.usuba_trees.specs.declared.Decl.{Decl}
 use Rattle.usuba_model.specs.Assignments.{cells_read}
 use Rattle.usuba_model.specs.Cells.{Cell, same_cell, is_among}
@@ -17,13 +16,13 @@ use Rattle.usuba_model.specs.Walk.{Signature}
 use Rattle.usuba_model.proofs.CellLemmas.{false_true, all_among_defined, given_all}
 use Rattle.usuba_model.proofs.Ordering.{AreFresh, extended, in_order, extended_within, given_among}
 use Rattle.usuba_model.proofs.Reaching.{IsSizedInstance}
-use Rattle.usuba_model.proofs.Valuing.{AreTotal, AllDefined, HasValue, has_value}
+use Rattle.usuba_model.proofs.Valuing.{AreTotal, AllDefined, has_value}
 use Rattle.usuba_model.specs.Numbers.{cell_number, is_declared}
 use Rattle.usuba_code.specs.Code.{Coded, coded, coded_at, code_of}
 use Rattle.usuba_code.specs.CodeLaw.{Each, HoldsSame, AnswersSame, CodeGivesValue}
 use Rattle.usuba_code.specs.Machine.{NumberedCallees, NumberedEnvironment, run_code}
 use Rattle.usuba_code.proofs.Premises.{has_sizes, answers_all}
-use Rattle.ready_order.specs.Numbered.{is_one_of, left_numbers, numbers_read, is_ready_numbered}
+use Rattle.ready_order.specs.Numbered.{is_one_of, left_numbers, numbers_read}
 use Rattle.ready_order.specs.Order.{AreReady}
 use Rattle.usuba_code.proofs.Numbering.{same_number}
 use Rattle.ready_order.proofs.CodedNumbers.{among_numbers, code_numbers, left_cells_numbers}
@@ -173,10 +172,10 @@ module _ {V : Type 0} (w : ℕ) (known_names : List (List ℕ)) (signatures : Li
         let cs = left_cells i in
         let read : list_all (is_among known) (cells_read i.right) ≡ true
         = sym (known_cells declared known all (cells_read i.right) good.0.reads)
-          ∙ ap (list_all (is_one_of (map (cell_number declared) known))) (sym (code_numbers signatures declared i.right))
-          ∙ ap (λ (c : Coded). list_all (is_one_of (map (cell_number declared) known)) (numbers_read c.code)) (sym (code_at k)) ∙ ready.0 in
+        ∙ ap (list_all (is_one_of (map (cell_number declared) known))) (sym (code_numbers signatures declared i.right))
+        ∙ ap (λ (c : Coded). list_all (is_one_of (map (cell_number declared) known)) (numbers_read c.code)) (sym (code_at k)) ∙ ready.0 in
         let value = has_value w known_names signatures operators callees total e i.right good.0.sized.right good.0.sized.calls
-            (all_among_defined e known defined (cells_read i.right) read) in
+        (all_among_defined e known defined (cells_read i.right) read) in
         let given_now : AllDefined (given cs value.0) cs = given_all cs value.0 (value.2 ∙ sym good.0.sized.sizes) in
         let numbers : left_numbers (coded_at (map (coded signatures declared) instances) k) ≡ map (cell_number declared) cs
         = ap (λ (c : Coded). left_numbers c) (code_at k) ∙ left_cells_numbers signatures declared i in
@@ -184,21 +183,21 @@ module _ {V : Type 0} (w : ℕ) (known_names : List (List ℕ)) (signatures : Li
         let next : Environment V = extended e cs value.0 in
         let taken_now : taken operators answers (coded_at (map (coded signatures declared) instances) k) numbered ≡ Some next_numbered
         = ap (λ (c : Coded). option_map (λ elements. with_given (left_numbers (coded_at (map (coded signatures declared) instances) k)) elements numbered)
-            (run_code operators answers numbered c.code [])) (code_at k)
-          ∙ ap (option_map (λ elements. with_given (left_numbers (coded_at (map (coded signatures declared) instances) k)) elements numbered))
-            (code_value i good.0 numbered e agree ∙ value.1)
-          ∙ ap (λ (ns : List ℕ). Some (with_given ns value.0 numbered)) numbers in
+        (run_code operators answers numbered c.code [])) (code_at k)
+        ∙ ap (option_map (λ elements. with_given (left_numbers (coded_at (map (coded signatures declared) instances) k)) elements numbered))
+        (code_value i good.0 numbered e agree ∙ value.1)
+        ∙ ap (λ (ns : List ℕ). Some (with_given ns value.0 numbered)) numbers in
         let known_next : left_numbers (coded_at (map (coded signatures declared) instances) k) ++ map (cell_number declared) known
-            ≡ map (cell_number declared) (cs ++ known)
+        ≡ map (cell_number declared) (cs ++ known)
         = ap (λ (ns : List ℕ). ns ++ map (cell_number declared) known) numbers ∙ sym (map-append (cell_number declared) cs known) in
         let all_next : AllDeclared declared (cs ++ known)
         = list_all-append (is_declared declared) cs known ∙ ap (λ (b : Bool). b && list_all (is_declared declared) known) good.0.assigns ∙ all in
         let rest = all_taken order good.1 (cs ++ known) all_next next_numbered next
-            (agree_next declared known numbered e cs value.0 agree within good.0.assigns fresh.0)
-            (defined_join next cs known (extended_new e cs value.0 cs given_now) (extended_old e cs value.0 known defined))
-            (extended_within operators callees known e within cs value.0)
-            fresh.1
-            (subst (λ (ns : List ℕ). AreReady ns (map (coded_at (map (coded signatures declared) instances)) order)) known_next ready.1) in
+        (agree_next declared known numbered e cs value.0 agree within good.0.assigns fresh.0)
+        (defined_join next cs known (extended_new e cs value.0 cs given_now) (extended_old e cs value.0 known defined))
+        (extended_within operators callees known e within cs value.0)
+        fresh.1
+        (subst (λ (ns : List ℕ). AreReady ns (map (coded_at (map (coded signatures declared) instances)) order)) known_next ready.1) in
         record {
           numbered_end = rest.numbered_end;
           end = rest.end;

@@ -1,5 +1,5 @@
 -- What is asked of the numbers in plans, so that they can be run. It says nothing of elements.
-use Rattle.std.specs.Prelude.{◌≡◌, ℕ, ◌+◌, ◌*◌, ◌^◌, ◌<◌, ◌≤◌, List, [], ◌∷◌, length, Option, Some, None, slice_get}
+use Rattle.std.specs.Prelude.{◌≡◌, ℕ, ◌^◌, ◌<◌, ◌≤◌, List, length, Option, Some, None, slice_get}
 use Rattle.usuba_trees.specs.declared.Def.{Def}
 use Rattle.usuba_model.specs.Walk.{signature}
 use Rattle.usuba_code.specs.Code.{Coded, coded_at}

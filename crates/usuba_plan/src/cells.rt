@@ -11,12 +11,15 @@ use std::alloc::{AllocError, Global};
 use usuba_code::Table;
 
 /// So many cells, or as many as there are inputs if these are more: the inputs are the first, the others are not defined.
-pub fn begin<H: Copy>(alloc: Global, cells: usize, inputs: &[H]) -> Result<Vec<Option<H>>, AllocError>
+pub fn begin<H: Copy>(
+    alloc: Global,
+    cells: usize,
+    inputs: &[H],
+) -> Result<Vec<Option<H>>, AllocError>
     ensures inputs { IfOk result (λ environment. (cell : ℕ) → handle_at environment.items cell ≡ element_at inputs.now cell) }
     ensures cells { IfOk result (λ environment. cells ≤ length environment.items) }
 {
-    let mut environment: Vec<Option<H>> =
-        inputs.iter().map(|input| Some(*input)).collect(alloc)?;
+    let mut environment: Vec<Option<H>> = inputs.iter().map(|input| Some(*input)).collect(alloc)?;
     environment.resize(cells.max(inputs.len()), None)?;
     Ok(environment)
 }

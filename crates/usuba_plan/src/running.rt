@@ -96,7 +96,9 @@ fn run_code<E: Elements>(
     ensures keeps { Keeps (code_room (room_below defs.now plans.now number) code.now) (E.store elements.old) (E.store elements.new) }
 {
     for operation in code {
-        run_operation(alloc, elements, defs, plans, number, *operation, cells, stack)?;
+        run_operation(
+            alloc, elements, defs, plans, number, *operation, cells, stack,
+        )?;
     }
     Ok(())
 }
@@ -121,11 +123,32 @@ fn run_operation<E: Elements>(
     match operation {
         Operation::Number(value) => push_number(elements, value, stack),
         Operation::Cell(cell) => push_cell(cells, cell as usize, stack),
-        Operation::Call { callee, inputs } => call(alloc, elements, defs, plans, callee as usize, inputs as usize, stack),
-        Operation::Complement(count) => apply_last(elements, Unary::Complement, count as usize, stack),
+        Operation::Call { callee, inputs } => call(
+            alloc,
+            elements,
+            defs,
+            plans,
+            callee as usize,
+            inputs as usize,
+            stack,
+        ),
+        Operation::Complement(count) => apply_last(
+            elements,
+            Unary::Complement,
+            count as usize,
+            stack,
+        ),
         Operation::Combine(op, count) => combine_last(elements, op, count as usize, stack),
-        Operation::Shift(kind, amount) => apply_last(elements, Unary::Shift(kind, amount), 1, stack),
-        Operation::Refresh { number: k, elements: count } => apply_last(elements, Unary::Refresh(k), count as usize, stack),
+        Operation::Shift(kind, amount) => apply_last(
+            elements,
+            Unary::Shift(kind, amount),
+            1,
+            stack,
+        ),
+        Operation::Refresh {
+            number: k,
+            elements: count,
+        } => apply_last(elements, Unary::Refresh(k), count as usize, stack),
     }
 }
 

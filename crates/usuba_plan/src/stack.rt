@@ -72,7 +72,7 @@ fn push_pairs<E: Elements>(
     ensures made { OnOk result (Gives (E.store elements.new) stack.new.items
         (Some (meanings (E.store elements.old) stack.old.items
         ++ element_by_element ((E.store elements.old).operators.operation_of op)
-            (meanings (E.store elements.old) left.now) (meanings (E.store elements.old) right.now)))) }
+        (meanings (E.store elements.old) left.now) (meanings (E.store elements.old) right.now)))) }
     ensures keeps { Keeps (weight op * length left.now) (E.store elements.old) (E.store elements.new) }
 {
     for i in 0..left.len() {

@@ -1,12 +1,9 @@
 -- Handles in the cells and on the stack of a run.
-use Rattle.std.specs.Prelude.{◌≡◌, ℕ, ◌<◌, List, Option, Some, option_map, slice_get, IsSome, length}
+use Rattle.std.specs.Prelude.{◌≡◌, ℕ, ◌<◌, List, Option, Some, option_map, slice_get}
 use Rattle.std.specs.Option.{option_flatten}
-use Rattle.usuba_trees.specs.declared.Def.{Def}
 use Rattle.usuba_model.specs.Rounds.{Operators}
-use Rattle.usuba_code.specs.CodeLaw.{Each}
-use Rattle.usuba_code.specs.Machine.{NumberedCallees, NumberedEnvironment}
-use Rattle.usuba_plan.specs.Store.{Store, meanings}
-use Rattle.usuba_plan.specs.declared.plans.Plan.{Plan}
+use Rattle.usuba_code.specs.Machine.{NumberedEnvironment}
+use Rattle.usuba_plan.specs.Store.{Store}
 use Rattle.usuba_plan.specs.declared.stack.Unary.{Unary}
 use Rattle.usuba_plan.specs.declared.stack.Unary.TheVariants.{Complement, Shift, Refresh}
 

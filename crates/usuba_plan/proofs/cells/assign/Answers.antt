@@ -1,4 +1,4 @@
-use Rattle.std.proofs.Common.{◌-◌, ◌≡◌, length, get_or, Some, refl, ◌∙◌, arith}
+use Rattle.std.proofs.Common.{◌-◌, get_or, Some, refl, ◌∙◌, arith}
 use Rattle.std.proofs.lemmas.List.{length-set}
 use Rattle.usuba_plan.proofs.Assigning.{assign_begin, assign_more}
 use Rattle.usuba_plan.proofs.cells.assign.Goals as goal

@@ -1,4 +1,4 @@
-use Rattle.std.proofs.Common.{◌≡◌, ◌≤◌, length, min}
+use Rattle.std.proofs.Common.{◌≡◌, length}
 use Rattle.usuba_plan.proofs.Assigning.{Assigned}
 use Rattle.usuba_plan.proofs.cells.assign.Given as goal
 

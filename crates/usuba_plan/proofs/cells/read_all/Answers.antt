@@ -1,4 +1,4 @@
-use Rattle.std.proofs.Common.{◌≡◌, ◌++◌, ◌∷◌, [], List, sym, subst, ◌+◌}
+use Rattle.std.proofs.Common.{List, sym, subst, ◌+◌}
 use Rattle.std.specs.List.{range_with_len}
 use Rattle.usuba_plan.specs.State.Handles.{handle_at}
 use Rattle.usuba_plan.proofs.Picking.{Picking, range_there, range_step, range_done}

@@ -1,16 +1,14 @@
-use Rattle.std.proofs.Common.{rules, ◌≡◌, ◌<◌, ◌≤◌, ℕ, List, ◌++◌, length, map, get_or, Option, Some, sym, ap, ◌∙◌, subst, arith}
+use Rattle.std.proofs.Common.{rules, ◌<◌, ◌≤◌, ℕ, List, ◌++◌, length, map, get_or, Option, sym, ap, ◌∙◌, subst, arith}
 use Rattle.std.specs.Prelude.{IfOk, IsSome}
 use Rattle.usuba_code.specs.Machine.{with_answer}
 use Rattle.std.specs.List.{range_with_len}
 use Rattle.std.proofs.lemmas.List.{get_or_default}
 use Rattle.std.proofs.lemmas.Result.{on_ok_weaker}
 use Rattle.usuba_code.specs.declared.operation.Operation.TheVariants as make
-use Rattle.usuba_model.specs.Rounds.{whole, permuted, looked_up}
+use Rattle.usuba_model.specs.Rounds.{whole, permuted}
 use Rattle.usuba_plan.specs.Made.{made_by_node, made_below, plan_outcome}
 use Rattle.usuba_plan.specs.State.Handles.{handle_at}
 use Rattle.usuba_plan.specs.Room.{plan_room}
-use Rattle.usuba_plan.specs.Running.{CanRun}
-use Rattle.usuba_plan.specs.State.Runs.{CanRunNode, CanRunCode, CanRunOperation, CanCall}
 use Rattle.usuba_plan.specs.Store.{Gives, Keeps, meanings}
 use Rattle.usuba_plan.proofs.Choices.{if_ok, if_extended, defs_within, can_node, node_outcome, node_room, table_room, table_enough, table_fits, table_outcome, permutation_outcome, not_absent}
 use Rattle.usuba_plan.proofs.NodeRuns.{picked_there, picked_mean, take_begin, can_take_at, take_kept_at, can_assign, take_next_at, take_there, take_done}
@@ -21,7 +19,7 @@ use Rattle.usuba_plan.proofs.running.+running.Goals as goal
 pub call-run-requires : goal.call-run-requires
 call-run-requires g t c κs within =
     let can = can_run c.args.defs.now c.args.plans.now (g.E.Elements.store c.args.elements.now) c.args.callee c.args.inputs c.args.stack.now.items c.requires
-        c.as_slice.result.now (c.as_slice.ensures.value ∙ c.in_ok-taken.ensures.taken) in
+    c.as_slice.result.now (c.as_slice.ensures.value ∙ c.in_ok-taken.ensures.taken) in
     search rules
 
 pub call-returns-clause-made : goal.call-returns-clause-made
@@ -41,13 +39,13 @@ call-returns-clause-made g t c =
 pub run-run_node-requires : goal.run-run_node-requires
 run-run_node-requires g t c κs within =
     let can = can_node (g.E.Elements.store c.args.elements.now) c.args.defs.now c.args.plans.now c.args.number c.args.inputs.now c.requires
-        c.index-plans-number.result c.index-plans-number.is c.in-Node.node c.in-Node.is in
+    c.index-plans-number.result c.index-plans-number.is c.in-Node.node c.in-Node.is in
     search rules
 
 pub run-offset_bounds-defs-number : goal.run-offset_bounds-defs-number
 run-offset_bounds-defs-number g t c =
     let less = defs_within (g.E.Elements.store c.args.elements.now) c.args.defs.now c.args.plans.now c.args.number c.args.inputs.now c.requires
-        c.index-plans-number.result c.index-plans-number.is in
+    c.index-plans-number.result c.index-plans-number.is in
     search rules
 
 pub run-bounds-defs-number : goal.run-bounds-defs-number
@@ -69,7 +67,7 @@ run-look_up-requires-clause-fits g t c =
 pub run-offset_bounds-defs-number-in-Permutation : goal.run-offset_bounds-defs-number-in-Permutation
 run-offset_bounds-defs-number-in-Permutation g t c =
     let less = defs_within (g.E.Elements.store c.args.elements.now) c.args.defs.now c.args.plans.now c.args.number c.args.inputs.now c.requires
-        c.index-plans-number.result c.index-plans-number.is in
+    c.index-plans-number.result c.index-plans-number.is in
     search rules
 
 pub run-bounds-defs-number-in-Permutation : goal.run-bounds-defs-number-in-Permutation
@@ -139,8 +137,8 @@ run_code-run_operation-requires g t c κs within =
     let code = c.args.code.now in
     let i = c.loop-operation.operation-index in
     let can = can_step c.args.defs.now c.args.plans.now c.args.number (g.E.Elements.store c.args.elements.now) (g.E.Elements.store c.loop-operation.elements)
-        code c.args.cells.now c.args.stack.now.items c.loop-operation.stack.items i (get_or code i (make.Number 0)) c.requires c.loop-operation-test.true
-        (get_or_default code i (make.Number 0) (get_or code i (make.Number 0)) c.loop-operation-test.true) c.loop-operation.invariant in
+    code c.args.cells.now c.args.stack.now.items c.loop-operation.stack.items i (get_or code i (make.Number 0)) c.requires c.loop-operation-test.true
+    (get_or_default code i (make.Number 0) (get_or code i (make.Number 0)) c.loop-operation-test.true) c.loop-operation.invariant in
     search rules
 
 pub run_code-returns-in_err-run_operation-clause-keeps : goal.run_code-returns-in_err-run_operation-clause-keeps
@@ -174,8 +172,8 @@ run_node-run_code-requires g t c κs within =
     let ok = c.args.node.now.order.ok.0 in
     let less : c.loop-i.i < length c.args.node.now.order.items = omega (arith, test, count, ok) in
     let can = can_take_at c.args.defs.now c.args.plans.now c.args.number (g.E.Elements.store c.args.elements.now) (g.E.Elements.store c.loop-i.elements)
-        c.args.node.now c.args.inputs.now c.loop-i.environment.items c.loop-i.i c.index.result.now c.requires less c.index.ensures c.loop-i.invariant
-        c.operations.result.now c.operations.ensures c.as_slice.result.now c.as_slice.ensures.value c.new-stack.result.items c.new-stack.ensures.items in
+    c.args.node.now c.args.inputs.now c.loop-i.environment.items c.loop-i.i c.index.result.now c.requires less c.index.ensures c.loop-i.invariant
+    c.operations.result.now c.operations.ensures c.as_slice.result.now c.as_slice.ensures.value c.new-stack.result.items c.new-stack.ensures.items in
     search rules
 
 pub run_node-returns-in_err-run_code-clause-keeps : goal.run_node-returns-in_err-run_code-clause-keeps
@@ -242,19 +240,19 @@ run_node-returns-clause-made g t c =
     let node = c.args.node.now in
     if_ok c.read_all.result _
     (λ handles. Gives (g.E.Elements.store c.loop-i.elements) handles.items
-      (made_by_node old.operators (made_below old.operators c.args.defs.now c.args.plans.now c.args.number) node (meanings old c.args.inputs.now)))
+    (made_by_node old.operators (made_below old.operators c.args.defs.now c.args.plans.now c.args.number) node (meanings old c.args.inputs.now)))
     (λ handles is. take_done c.args.defs.now c.args.plans.now c.args.number old (g.E.Elements.store c.loop-i.elements)
-      node c.args.inputs.now c.loop-i.environment.items handles.items c.loop-i.i past c.loop-i.invariant
-      (ap (λ (cells : List (Option g.row.E-Handle.Denot)). whole (map (handle_at cells) (range_with_len node.inputs node.outputs))) (sym c.as_slice-2.ensures.value) ∙ is))
+    node c.args.inputs.now c.loop-i.environment.items handles.items c.loop-i.i past c.loop-i.invariant
+    (ap (λ (cells : List (Option g.row.E-Handle.Denot)). whole (map (handle_at cells) (range_with_len node.inputs node.outputs))) (sym c.as_slice-2.ensures.value) ∙ is))
     c.read_all.ensures
 
 pub run_operation-call-requires : goal.run_operation-call-requires
 run_operation-call-requires g t c κs within =
     let s = g.E.Elements.store c.args.elements.now in
     let can = operation_can c.args.defs.now c.args.plans.now s c.args.number c.in-Call.callee c.in-Call.inputs c.args.cells.now c.args.stack.now.items
-        c.args.operation c.in-Call.is c.requires in
+    c.args.operation c.in-Call.is c.requires in
     let below = operation_below c.args.defs.now c.args.plans.now s c.args.number c.in-Call.callee c.in-Call.inputs c.args.cells.now c.args.stack.now.items
-        c.args.operation c.in-Call.is c.requires in
+    c.args.operation c.in-Call.is c.requires in
     search rules
 
 pub run_operation-returns-in-Call-clause-made : goal.run_operation-returns-in-Call-clause-made

@@ -1,7 +1,6 @@
-use Rattle.std.proofs.Common.{◌≡◌, ◌≤◌, ◌-◌, ◌∙◌, ◌++◌, List, length, map, drop, Some, subst, arith}
+use Rattle.std.proofs.Common.{◌≤◌, ◌∙◌, length, map, arith}
 use Rattle.std.proofs.lemmas.Result.{on_ok_weaker}
 use Rattle.usuba_plan.specs.State.Handles.{unary_of}
-use Rattle.usuba_plan.specs.Store.{meanings}
 use Rattle.usuba_plan.proofs.Splitting.{applied}
 use Rattle.usuba_plan.proofs.stack.apply_last.Goals as goal
 

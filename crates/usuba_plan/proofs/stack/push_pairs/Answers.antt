@@ -1,4 +1,4 @@
-use Rattle.std.proofs.Common.{◌≡◌, ◌<◌, ◌+◌, ◌*◌, ◌++◌, ℕ, List, length, sym, subst, arith}
+use Rattle.std.proofs.Common.{◌<◌, ◌+◌, ◌*◌, ◌++◌, ℕ, List, length, sym, subst, arith}
 use Rattle.usuba_model.specs.Rounds.{element_by_element}
 use Rattle.usuba_model.specs.Walk.{weight}
 use Rattle.usuba_plan.specs.Store.{meanings}

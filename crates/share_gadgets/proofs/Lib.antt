@@ -6,3 +6,6 @@ pub mod ValueLemmas
 pub mod ProductValues
 pub mod Shared
 pub mod RunLemmas
+pub mod EquationLemmas
+pub mod RandomLemmas
+pub mod RunSteps

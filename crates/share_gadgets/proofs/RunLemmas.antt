@@ -49,7 +49,7 @@ module _ (w B d : ℕ) (fits : w ≤ B) (some : 0 < d) where
     row : (r : Reg) → r.0 < length rows → IsSharing B d (sharing_at rows r)
     row r h = all r.0 [] h
 
-    follows : (g : Gate) → IsEquation w (length rows) g → Follows random rows g
+    pub follows : (g : Gate) → IsEquation w (length rows) g → Follows random rows g
     follows (gate.Const c) h = record {
       value = constant_value d (word_of_constant w B c);
       shared = constant_shared B d (word_of_constant w B c) some (constant_below w B c fits h);
@@ -89,7 +89,7 @@ module _ (w B d : ℕ) (fits : w ≤ B) (some : 0 < d) where
       shared = refreshed_shared B d (sharing_at rows a) random small (row a h);
     }
 
-  all_push : (rows : List (List ℕ)) (x : List ℕ) → All (IsSharing B d) rows → IsSharing B d x → All (IsSharing B d) (rows ++ x ∷ [])
+  pub all_push : (rows : List (List ℕ)) (x : List ℕ) → All (IsSharing B d) rows → IsSharing B d x → All (IsSharing B d) (rows ++ x ∷ [])
   all_push rows x a s k e h =
       ⊎_elim (λ (l : k < length rows). subst (IsSharing B d) (sym (get_or_append_left rows (x ∷ []) e k l)) (a k e l))
       (λ (l : length rows ≤ k). let m : length rows ≡ k = omega (arith, length_push rows x) in

@@ -16,7 +16,7 @@ use Rattle.share_gadgets.proofs.ValueLemmas.{value_cons}
 pub ones_below : (B : ℕ) → ones B < 2 ^ B
 ones_below B = let h = pow_pos B in omega arith
 
-pow_le : (w B : ℕ) → w ≤ B → 2 ^ w ≤ 2 ^ B
+pub pow_le : (w B : ℕ) → w ≤ B → 2 ^ w ≤ 2 ^ B
 pow_le w B h =
     ⊎_elim (λ (l : w < B). let k = pow_below w B l in omega arith)
     (λ (l : B ≤ w). let e : w ≡ B = omega arith in subst (λ (n : ℕ). 2 ^ w ≤ 2 ^ n) e (omega arith)) (cases_lt w B)

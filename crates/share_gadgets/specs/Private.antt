@@ -1,2 +1,4 @@
 pub mod PairLoop
 pub mod WordLaws
+pub mod Shift
+pub mod Cut

@@ -75,6 +75,14 @@ impl<R: Register, const D: usize> Sharing<R, D> {
         self.shares.as_slice()
     }
 
+    pub(crate) fn copy(&self, alloc: Global) -> Result<Sharing<R, D>, AllocError>
+        ensures same { IfOk result (λ sharing. sharing ≡ self.now) }
+        ensures count { IfOk result (λ _. length self.now ≡ D) }
+    {
+        let shares = Vec::from_slice(alloc, self.shares())?;
+        Ok(Sharing { shares })
+    }
+
     pub(crate) fn from_vec(shares: Vec<R>) -> Sharing<R, D>
         requires some { 0 < D }
         requires few { D ≤ 65535 }

@@ -35,7 +35,8 @@ pub enum Walked {
 
 // How many elements two lists of variables have together, where these are no more than the operations that a source may have.
 fn count_two(first: &[Decl], second: &[Decl]) -> Option<u32>
-    ensures { MatchOption result (4194304 < all_elements (first.now ++ second.now)) (λ count. (count ≡ all_elements (first.now ++ second.now)) × (count ≤ 4194304)) }
+    ensures { MatchOption result (4194304 < all_elements (first.now ++ second.now))
+        (λ count. (count ≡ all_elements (first.now ++ second.now)) × (count ≤ 4194304)) }
 {
     let first = count_elements(first)?;
     let second = count_elements(second)?;
@@ -49,7 +50,8 @@ fn count_two(first: &[Decl], second: &[Decl]) -> Option<u32>
 
 // The same of all variables of a node.
 fn count_node(node: &Node) -> Option<u32>
-    ensures { MatchOption result (4194304 < all_elements (declarations node.now)) (λ count. (count ≡ all_elements (declarations node.now)) × (count ≤ 4194304)) }
+    ensures { MatchOption result (4194304 < all_elements (declarations node.now))
+        (λ count. (count ≡ all_elements (declarations node.now)) × (count ≤ 4194304)) }
 {
     let first = count_two(node.inputs.as_slice(), node.outputs.as_slice())?;
     let second = count_elements(node.locals.as_slice())?;
@@ -63,8 +65,10 @@ fn count_node(node: &Node) -> Option<u32>
 
 // Begins a walk with the cells that a definition declares.
 fn begin(alloc: Global, place: Place, elements: u32) -> Result<Progress, Stop>
-    ensures after { IfOk result (λ progress. IsAfter progress (record { place = place; adds = elements; fault = None } ∷ []) []) }
-    ensures stops { IfFault result (λ found. walk_fault 0 (record { place = place; adds = elements; fault = None } ∷ []) ≡ Some found) }
+    ensures after { IfOk result
+        (λ progress. IsAfter progress (record { place = place; adds = elements; fault = None } ∷ []) []) }
+    ensures stops { IfFault result
+        (λ found. walk_fault 0 (record { place = place; adds = elements; fault = None } ∷ []) ≡ Some found) }
 {
     let count = counted(0, place, u64::from(elements), None)?;
     Ok(Progress {
@@ -95,9 +99,11 @@ fn walk_grid(alloc: Global, grid: &Grid) -> Result<Progress, Stop>
 }
 
 fn begin_node(alloc: Global, node: &Node) -> Result<Progress, Stop>
-    ensures after { IfOk result (λ progress. IsAfter progress (declared_step node.now.name.place (declarations node.now) ∷ []) []) }
+    ensures after { IfOk result
+        (λ progress. IsAfter progress (declared_step node.now.name.place (declarations node.now) ∷ []) []) }
     ensures few { IfOk result (λ progress. all_elements (declarations node.now) ≤ 4194304) }
-    ensures stops { IfFault result (λ found. walk_fault 0 (declared_step node.now.name.place (declarations node.now) ∷ []) ≡ Some found) }
+    ensures stops { IfFault result
+        (λ found. walk_fault 0 (declared_step node.now.name.place (declarations node.now) ∷ []) ≡ Some found) }
 {
     match count_node(node) {
         Some(elements) => begin(alloc, node.name.place, elements),
@@ -111,7 +117,8 @@ fn walk_node(
     earlier: &Definitions<'_>,
     node: &Node,
 ) -> Result<Progress, Stop>
-    ensures after { IfOk result (λ progress. IsAfter progress (node_steps width earlier.now node.now) (coded_node earlier.now node.now)) }
+    ensures after { IfOk result
+        (λ progress. IsAfter progress (node_steps width earlier.now node.now) (coded_node earlier.now node.now)) }
     ensures stops { IfFault result (λ found. walk_fault 0 (node_steps width earlier.now node.now) ≡ Some found) }
 {
     let mut progress = begin_node(alloc, node)?;
@@ -132,8 +139,11 @@ fn walk_def(
     earlier: &Definitions<'_>,
     definition: &Def,
 ) -> Result<Progress, Stop>
-    ensures after { IfOk result (λ progress. IsAfter progress (definition_steps width earlier.now definition.now) (coded_definition earlier.now definition.now)) }
-    ensures stops { IfFault result (λ found. walk_fault 0 (definition_steps width earlier.now definition.now) ≡ Some found) }
+    ensures after { IfOk result
+        (λ progress. IsAfter progress (definition_steps width earlier.now definition.now)
+        (coded_definition earlier.now definition.now)) }
+    ensures stops { IfFault result
+        (λ found. walk_fault 0 (definition_steps width earlier.now definition.now) ≡ Some found) }
 {
     match definition {
         Def::Node(node) => walk_node(alloc, width, earlier, node),

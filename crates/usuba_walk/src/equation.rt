@@ -28,9 +28,13 @@ fn walk_target(
 ) -> Result<u32, Stop>
     ensures size { IfOk result (λ size. size ≡ length (read_in scope.now counters.now spot.now).cells) }
     ensures few { IfOk result (λ size. size + progress.old.count ≤ progress.new.count) }
-    ensures takes { OnOk result (Takes progress.old progress.new (spot_step spot.now.name.place (read_in scope.now counters.now spot.now) ∷ [])
+    ensures takes { OnOk result
+        (Takes progress.old progress.new
+        (spot_step spot.now.name.place (read_in scope.now counters.now spot.now) ∷ [])
         (with_targets progress.old.table (target_in scope.now counters.now spot.now ∷ []))) }
-    ensures stops { IfFault result (λ found. walk_fault progress.old.count (spot_step spot.now.name.place (read_in scope.now counters.now spot.now) ∷ []) ≡ Some found) }
+    ensures stops { IfFault result
+        (λ found. walk_fault progress.old.count
+        (spot_step spot.now.name.place (read_in scope.now counters.now spot.now) ∷ []) ≡ Some found) }
 {
     read_cells(scope, counters, progress, spot)?;
     push_cells(&mut progress.table, progress.cells.as_slice())?;
@@ -45,10 +49,15 @@ fn walk_left(
     progress: &mut Progress,
     left: &[Spot],
 ) -> Result<u32, Stop>
-    ensures size { IfOk result (λ size. size ≡ length (target_cells (targets_of scope.now.variables (around counters.now) left.now))) }
-    ensures takes { OnOk result (Takes progress.old progress.new (left_steps scope.now.variables (around counters.now) left.now)
-        (with_targets progress.old.table (map (assigned scope.now.variables) (targets_of scope.now.variables (around counters.now) left.now)))) }
-    ensures stops { IfFault result (λ found. walk_fault progress.old.count (left_steps scope.now.variables (around counters.now) left.now) ≡ Some found) }
+    ensures size { IfOk result (λ size. size ≡ length
+        (target_cells (targets_of scope.now.variables (around counters.now) left.now))) }
+    ensures takes { OnOk result
+        (Takes progress.old progress.new (left_steps scope.now.variables (around counters.now) left.now)
+        (with_targets progress.old.table
+        (map (assigned scope.now.variables) (targets_of scope.now.variables (around counters.now) left.now)))) }
+    ensures stops { IfFault result
+        (λ found. walk_fault progress.old.count (left_steps scope.now.variables (around counters.now) left.now)
+        ≡ Some found) }
 {
     let mut size: u32 = 0;
     for spot in left {
@@ -69,8 +78,10 @@ fn first_name(equation: &Equation) -> Place
 
 // Takes the step of the sign `=`, where both sides have so many elements, and ends the instance.
 fn end_equation(progress: &mut Progress, equal: Place, left: u32, right: u32) -> Result<(), Stop>
-    ensures takes { OnOk result (Takes progress.old progress.new (end_step equal left right ∷ []) (with_end progress.old.table)) }
-    ensures stops { IfFault result (λ found. walk_fault progress.old.count (end_step equal left right ∷ []) ≡ Some found) }
+    ensures takes { OnOk result
+        (Takes progress.old progress.new (end_step equal left right ∷ []) (with_end progress.old.table)) }
+    ensures stops { IfFault result
+        (λ found. walk_fault progress.old.count (end_step equal left right ∷ []) ≡ Some found) }
 {
     let fault = when(left != right, FaultKind::SizeMismatch);
     progress.count = counted(progress.count, equal, 0, fault)?;
@@ -87,7 +98,9 @@ pub fn walk_equation(
 ) -> Result<(), Stop>
     ensures takes { OnOk result (Takes progress.old progress.new (equation_steps_in scope.now counters.now equation.now)
         (with_instances progress.old.table (equation_coded_in scope.now counters.now equation.now ∷ []))) }
-    ensures stops { IfFault result (λ found. walk_fault progress.old.count (equation_steps_in scope.now counters.now equation.now) ≡ Some found) }
+    ensures stops { IfFault result
+        (λ found. walk_fault progress.old.count (equation_steps_in scope.now counters.now equation.now)
+        ≡ Some found) }
 {
     progress.count = counted(progress.count, first_name(equation), 1, None)?;
     let left = walk_left(scope, counters, progress, equation.left.as_slice())?;

@@ -19,8 +19,12 @@ pub fn walk(
     progress: &mut Progress,
     expression: &Expr,
 ) -> Result<u32, Stop>
-    ensures walked { IfOk result (λ size. IsWalkedIn scope.now progress.old progress.new size (walked_in scope.now counters.now expression.now)) }
-    ensures stops { IfFault result (λ found. walk_fault progress.old.count (walked_in scope.now counters.now expression.now).steps ≡ Some found) }
+    ensures walked { IfOk result
+        (λ size. IsWalkedIn scope.now progress.old progress.new size
+        (walked_in scope.now counters.now expression.now)) }
+    ensures stops { IfFault result
+        (λ found. walk_fault progress.old.count (walked_in scope.now counters.now expression.now).steps
+        ≡ Some found) }
 {
     match expression {
         Expr::Number { place, value } => number(scope.width, progress, *place, *value),
@@ -61,8 +65,12 @@ fn walk_parts(
     progress: &mut Progress,
     parts: &[Expr],
 ) -> Result<u32, Stop>
-    ensures walked { IfOk result (λ size. IsWalkedIn scope.now progress.old progress.new size (walked_parts_in scope.now counters.now parts.now)) }
-    ensures stops { IfFault result (λ found. walk_fault progress.old.count (walked_parts_in scope.now counters.now parts.now).steps ≡ Some found) }
+    ensures walked { IfOk result
+        (λ size. IsWalkedIn scope.now progress.old progress.new size
+        (walked_parts_in scope.now counters.now parts.now)) }
+    ensures stops { IfFault result
+        (λ found. walk_fault progress.old.count (walked_parts_in scope.now counters.now parts.now).steps
+        ≡ Some found) }
 {
     let mut size: u32 = 0;
     for part in parts {
@@ -82,9 +90,12 @@ fn walk_links(
     links: &[Link],
 ) -> Result<u32, Stop>
     ensures size { IfOk result (λ made. made ≡ size) }
-    ensures takes { IfOk result (λ made. Takes progress.old progress.new (links_steps_in scope.now counters.now op size links.now)
+    ensures takes { IfOk result
+        (λ made. Takes progress.old progress.new (links_steps_in scope.now counters.now op size links.now)
         (with_code progress.old.table (links_code_in scope.now counters.now op size links.now))) }
-    ensures stops { IfFault result (λ found. walk_fault progress.old.count (links_steps_in scope.now counters.now op size links.now) ≡ Some found) }
+    ensures stops { IfFault result
+        (λ found. walk_fault progress.old.count (links_steps_in scope.now counters.now op size links.now)
+        ≡ Some found) }
 {
     for link in links {
         let operand = walk(scope, counters, progress, &link.operand)?;

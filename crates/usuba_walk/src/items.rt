@@ -3,7 +3,9 @@ ghost use Rattle.usuba_model.specs.Unrolled.{from_up};
 ghost use Rattle.usuba_model.specs.Walk.{walk_fault, bounds_step};
 ghost use Rattle.usuba_cells.specs.Counters.{around, computed_of};
 ghost use Rattle.usuba_walk.specs.State.Progress.{IfFault, Takes, with_instances};
-ghost use Rattle.usuba_walk.specs.State.Scopes.{item_steps_in, item_coded_in, items_steps_in, items_coded_in, loop_steps_in, loop_coded_in, instance_steps_in, instances_coded_in, one_instance_steps, one_instance_coded};
+ghost use Rattle.usuba_walk.specs.State.Scopes.{item_steps_in, item_coded_in, items_steps_in, items_coded_in};
+ghost use Rattle.usuba_walk.specs.State.Scopes.{loop_steps_in, loop_coded_in, instance_steps_in, instances_coded_in};
+ghost use Rattle.usuba_walk.specs.State.Scopes.{one_instance_steps, one_instance_coded};
 
 use crate::count::counted;
 use crate::equation::walk_equation;
@@ -27,7 +29,9 @@ pub fn walk_items<'a>(
     ensures counters_stay { OnOk result (counters.new.items ≡ counters.old.items) }
     ensures takes { OnOk result (Takes progress.old progress.new (items_steps_in scope.now counters.old.items items.now)
         (with_instances progress.old.table (items_coded_in scope.now counters.old.items items.now))) }
-    ensures stops { IfFault result (λ found. walk_fault progress.old.count (items_steps_in scope.now counters.old.items items.now) ≡ Some found) }
+    ensures stops { IfFault result
+        (λ found. walk_fault progress.old.count (items_steps_in scope.now counters.old.items items.now)
+        ≡ Some found) }
 {
     for item in items {
         walk_item(scope, counters, progress, item)?;
@@ -45,7 +49,8 @@ fn walk_item<'a>(
     ensures counters_stay { OnOk result (counters.new.items ≡ counters.old.items) }
     ensures takes { OnOk result (Takes progress.old progress.new (item_steps_in scope.now counters.old.items item.now)
         (with_instances progress.old.table (item_coded_in scope.now counters.old.items item.now))) }
-    ensures stops { IfFault result (λ found. walk_fault progress.old.count (item_steps_in scope.now counters.old.items item.now) ≡ Some found) }
+    ensures stops { IfFault result
+        (λ found. walk_fault progress.old.count (item_steps_in scope.now counters.old.items item.now) ≡ Some found) }
 {
     match item {
         Item::Equation(equation) => {
@@ -57,7 +62,8 @@ fn walk_item<'a>(
 
 // What the bounds of a loop have at fault.
 fn bounds_fault(low: &Computed, high: &Computed) -> Option<FaultKind>
-    ensures { result ≡ (bounds_step (record { line = 0; column = 0 }) (computed_of low.now) (computed_of high.now)).fault }
+    ensures { result ≡ (bounds_step (record { line = 0; column = 0 }) (computed_of low.now)
+        (computed_of high.now)).fault }
 {
     first(
         when(
@@ -77,9 +83,12 @@ fn walk_loop<'a>(
     repeated: &'a Loop,
 ) -> Result<(), Stop>
     ensures counters_stay { OnOk result (counters.new.items ≡ counters.old.items) }
-    ensures takes { OnOk result (Takes progress.old progress.new (loop_steps_in scope.now counters.old.items repeated.now)
+    ensures takes { OnOk result
+        (Takes progress.old progress.new (loop_steps_in scope.now counters.old.items repeated.now)
         (with_instances progress.old.table (loop_coded_in scope.now counters.old.items repeated.now))) }
-    ensures stops { IfFault result (λ found. walk_fault progress.old.count (loop_steps_in scope.now counters.old.items repeated.now) ≡ Some found) }
+    ensures stops { IfFault result
+        (λ found. walk_fault progress.old.count (loop_steps_in scope.now counters.old.items repeated.now)
+        ≡ Some found) }
 {
     let low = compute(&repeated.low, counters.as_slice());
     let high = compute(&repeated.high, counters.as_slice());
@@ -102,10 +111,14 @@ fn walk_instances<'a>(
     high: i64,
 ) -> Result<(), Stop>
     ensures counters_stay { OnOk result (counters.new.items ≡ counters.old.items) }
-    ensures takes { OnOk result (Takes progress.old progress.new (instance_steps_in scope.now counters.old.items repeated.now (from_up low (high -ℤ low)))
-        (with_instances progress.old.table (instances_coded_in scope.now counters.old.items repeated.now (from_up low (high -ℤ low))))) }
+    ensures takes { OnOk result
+        (Takes progress.old progress.new
+        (instance_steps_in scope.now counters.old.items repeated.now (from_up low (high -ℤ low)))
+        (with_instances progress.old.table
+        (instances_coded_in scope.now counters.old.items repeated.now (from_up low (high -ℤ low))))) }
     ensures stops { IfFault result (λ found.
-        walk_fault progress.old.count (instance_steps_in scope.now counters.old.items repeated.now (from_up low (high -ℤ low))) ≡ Some found) }
+        walk_fault progress.old.count
+        (instance_steps_in scope.now counters.old.items repeated.now (from_up low (high -ℤ low))) ≡ Some found) }
 {
     for value in low..=high {
         walk_instance(scope, counters, progress, repeated, value)?;
@@ -115,7 +128,8 @@ fn walk_instances<'a>(
 
 // Adds the counter of a further loop, the innermost.
 fn enter<'a>(counters: &mut Vec<Counter<'a>>, name: &'a str, value: i64) -> Result<(), AllocError>
-    ensures entered { OnOk result (around counters.new.items ≡ record { name = name.now; value = value } ∷ around counters.old.items) }
+    ensures entered { OnOk result
+        (around counters.new.items ≡ record { name = name.now; value = value } ∷ around counters.old.items) }
     ensures kept { OnOk result (take (length counters.new.items - 1) counters.new.items ≡ counters.old.items) }
 {
     counters.push(Counter { name, value })?;
@@ -132,10 +146,12 @@ fn walk_instance<'a>(
     value: i64,
 ) -> Result<(), Stop>
     ensures counters_stay { OnOk result (counters.new.items ≡ counters.old.items) }
-    ensures takes { OnOk result (Takes progress.old progress.new (one_instance_steps scope.now counters.old.items repeated.now value)
+    ensures takes { OnOk result
+        (Takes progress.old progress.new (one_instance_steps scope.now counters.old.items repeated.now value)
         (with_instances progress.old.table (one_instance_coded scope.now counters.old.items repeated.now value))) }
     ensures stops { IfFault result (λ found.
-        walk_fault progress.old.count (one_instance_steps scope.now counters.old.items repeated.now value) ≡ Some found) }
+        walk_fault progress.old.count (one_instance_steps scope.now counters.old.items repeated.now value)
+        ≡ Some found) }
 {
     progress.count = counted(progress.count, repeated.place, 1, None)?;
     enter(counters, repeated.counter.text.as_str(), value)?;

@@ -2,9 +2,11 @@ ghost use Rattle.std.specs.Prelude.{◌≡◌, ◌+◌, ◌≤◌, [], ◌∷◌
 ghost use Rattle.usuba_model.specs.Indexes.{computed};
 ghost use Rattle.usuba_model.specs.Unrolled.{natural as natural_of};
 ghost use Rattle.usuba_cells.specs.Counters.{around};
-ghost use Rattle.usuba_model.specs.Walk.{walk_fault, signature_of, number_step, call_step, operator_step, shift_step, refresh_step, weight as weight_of};
+ghost use Rattle.usuba_model.specs.Walk.{walk_fault, signature_of, number_step, call_step, operator_step, shift_step};
+ghost use Rattle.usuba_model.specs.Walk.{refresh_step, weight as weight_of};
 ghost use Rattle.usuba_model.specs.Numbers.{callee_number};
-ghost use Rattle.usuba_walk.specs.State.Progress.{IfFault, Takes, Makes, with_code, moves_steps, moves_code, moved_size};
+ghost use Rattle.usuba_walk.specs.State.Progress.{IfFault, Takes, Makes, with_code, moves_steps, moves_code};
+ghost use Rattle.usuba_walk.specs.State.Progress.{moved_size};
 
 use crate::count::counted;
 use crate::definitions::Definitions;
@@ -25,9 +27,12 @@ fn apply(
     fault: Option<FaultKind>,
     operation: Operation,
 ) -> Result<(), Stop>
-    ensures takes { OnOk result (Takes progress.old progress.new (record { place = place; adds = adds; fault = fault } ∷ [])
+    ensures takes { OnOk result
+        (Takes progress.old progress.new (record { place = place; adds = adds; fault = fault } ∷ [])
         (with_code progress.old.table (operation ∷ []))) }
-    ensures stops { IfFault result (λ found. walk_fault progress.old.count (record { place = place; adds = adds; fault = fault } ∷ []) ≡ Some found) }
+    ensures stops { IfFault result
+        (λ found. walk_fault progress.old.count (record { place = place; adds = adds; fault = fault } ∷ [])
+        ≡ Some found) }
 {
     progress.count = counted(progress.count, place, adds, fault)?;
     progress.table.push_operation(operation)?;
@@ -37,8 +42,11 @@ fn apply(
 /// Walks a number.
 pub fn number(width: u32, progress: &mut Progress, place: Place, value: u64) -> Result<u32, Stop>
     ensures size { IfOk result (λ size. size ≡ 1) }
-    ensures makes { IfOk result (λ size. Makes progress.old progress.new size (number_step width place value ∷ []) (Operation.Number value ∷ [])) }
-    ensures stops { IfFault result (λ found. walk_fault progress.old.count (number_step width place value ∷ []) ≡ Some found) }
+    ensures makes { IfOk result
+        (λ size. Makes progress.old progress.new size (number_step width place value ∷ [])
+        (Operation.Number value ∷ [])) }
+    ensures stops { IfFault result
+        (λ found. walk_fault progress.old.count (number_step width place value ∷ []) ≡ Some found) }
 {
     let fault = when(is_too_big(width, value), FaultKind::ConstTooBig);
     apply(progress, place, 1, fault, Operation::Number(value))?;
@@ -57,7 +65,8 @@ pub fn call(
         (call_step name.now.place (signature_of earlier.now name.now.text) given ∷ [])
         (Operation.Call (callee_number earlier.now name.now.text) given ∷ [])) }
     ensures stops { IfFault result (λ found.
-        walk_fault progress.old.count (call_step name.now.place (signature_of earlier.now name.now.text) given ∷ []) ≡ Some found) }
+        walk_fault progress.old.count (call_step name.now.place (signature_of earlier.now name.now.text) given ∷ [])
+        ≡ Some found) }
 {
     let callee = earlier.find(name.text.as_str());
     let operation = Operation::Call {
@@ -78,8 +87,12 @@ pub fn call(
 /// Walks the sign of a complement of so many elements.
 pub fn complement(progress: &mut Progress, place: Place, size: u32) -> Result<u32, Stop>
     ensures size { IfOk result (λ made. made ≡ size) }
-    ensures makes { IfOk result (λ made. Makes progress.old progress.new made (record { place = place; adds = size; fault = None } ∷ []) (Operation.Complement size ∷ [])) }
-    ensures stops { IfFault result (λ found. walk_fault progress.old.count (record { place = place; adds = size; fault = None } ∷ []) ≡ Some found) }
+    ensures makes { IfOk result
+        (λ made. Makes progress.old progress.new made (record { place = place; adds = size; fault = None } ∷ [])
+        (Operation.Complement size ∷ [])) }
+    ensures stops { IfFault result
+        (λ found. walk_fault progress.old.count (record { place = place; adds = size; fault = None } ∷ [])
+        ≡ Some found) }
 {
     apply(
         progress,
@@ -110,8 +123,11 @@ pub fn operator(
     left: u32,
     right: u32,
 ) -> Result<(), Stop>
-    ensures takes { OnOk result (Takes progress.old progress.new (operator_step op place left right ∷ []) (with_code progress.old.table (Operation.Combine op left ∷ []))) }
-    ensures stops { IfFault result (λ found. walk_fault progress.old.count (operator_step op place left right ∷ []) ≡ Some found) }
+    ensures takes { OnOk result
+        (Takes progress.old progress.new (operator_step op place left right ∷ [])
+        (with_code progress.old.table (Operation.Combine op left ∷ []))) }
+    ensures stops { IfFault result
+        (λ found. walk_fault progress.old.count (operator_step op place left right ∷ []) ≡ Some found) }
 {
     let fault = when(left != right, FaultKind::SizeMismatch);
     let adds = weight(op) * u64::from(left);
@@ -126,10 +142,14 @@ fn shift(
     size: u32,
     sign: &ShiftLink,
 ) -> Result<(), Stop>
-    ensures takes { OnOk result (Takes progress.old progress.new (shift_step width sign.now.place size (computed sign.now.amount (around counters.now)) ∷ [])
-        (with_code progress.old.table (Operation.Shift sign.now.kind (natural_of (computed sign.now.amount (around counters.now)).value) ∷ []))) }
+    ensures takes { OnOk result
+        (Takes progress.old progress.new
+        (shift_step width sign.now.place size (computed sign.now.amount (around counters.now)) ∷ [])
+        (with_code progress.old.table
+        (Operation.Shift sign.now.kind (natural_of (computed sign.now.amount (around counters.now)).value) ∷ []))) }
     ensures stops { IfFault result (λ found.
-        walk_fault progress.old.count (shift_step width sign.now.place size (computed sign.now.amount (around counters.now)) ∷ []) ≡ Some found) }
+        walk_fault progress.old.count
+        (shift_step width sign.now.place size (computed sign.now.amount (around counters.now)) ∷ []) ≡ Some found) }
 {
     let amount = compute(&sign.amount, counters);
     let far = when(is_beyond(width, amount.value), FaultKind::ShiftTooFar);
@@ -150,9 +170,12 @@ pub fn walk_moves(
     moves: &[ShiftLink],
 ) -> Result<u32, Stop>
     ensures size { IfOk result (λ made. made ≡ moved_size size moves.now) }
-    ensures takes { OnOk result (Takes progress.old progress.new (moves_steps width (around counters.now) size moves.now)
+    ensures takes { OnOk result
+        (Takes progress.old progress.new (moves_steps width (around counters.now) size moves.now)
         (with_code progress.old.table (moves_code (around counters.now) moves.now))) }
-    ensures stops { IfFault result (λ found. walk_fault progress.old.count (moves_steps width (around counters.now) size moves.now) ≡ Some found) }
+    ensures stops { IfFault result
+        (λ found. walk_fault progress.old.count (moves_steps width (around counters.now) size moves.now)
+        ≡ Some found) }
 {
     for sign in moves {
         shift(width, counters, progress, size, sign)?;
@@ -170,9 +193,13 @@ pub fn refresh(
     index: &Index,
 ) -> Result<u32, Stop>
     ensures size { IfOk result (λ made. made ≡ size) }
-    ensures makes { IfOk result (λ made. Makes progress.old progress.new made (refresh_step place size (computed index.now (around counters.now)) ∷ [])
+    ensures makes { IfOk result
+        (λ made. Makes progress.old progress.new made
+        (refresh_step place size (computed index.now (around counters.now)) ∷ [])
         (Operation.Refresh (natural_of (computed index.now (around counters.now)).value) size ∷ [])) }
-    ensures stops { IfFault result (λ found. walk_fault progress.old.count (refresh_step place size (computed index.now (around counters.now)) ∷ []) ≡ Some found) }
+    ensures stops { IfFault result
+        (λ found. walk_fault progress.old.count
+        (refresh_step place size (computed index.now (around counters.now)) ∷ []) ≡ Some found) }
 {
     let number = compute(index, counters);
     let beyond = when(is_beyond(65_536, number.value), FaultKind::IndexOut);

@@ -18,7 +18,8 @@ use usuba_trees::Spot;
 
 // What a spot has at fault.
 fn spot_fault(read: SpotRead) -> Option<FaultKind>
-    ensures { result ≡ first_kind (when_holds read.divided_by_zero FaultKind.ZeroDivisor) (when_holds read.index_out FaultKind.IndexOut) }
+    ensures { result ≡ first_kind (when_holds read.divided_by_zero FaultKind.ZeroDivisor)
+        (when_holds read.index_out FaultKind.IndexOut) }
 {
     first(
         when(read.divided_by_zero, FaultKind::ZeroDivisor),
@@ -33,9 +34,15 @@ pub fn read_cells(
     progress: &mut Progress,
     spot: &Spot,
 ) -> Result<(), Stop>
-    ensures takes { OnOk result (Takes progress.old progress.new (spot_step spot.now.name.place (read_in scope.now counters.now spot.now) ∷ []) progress.old.table) }
-    ensures cells { OnOk result (progress.new.cells.items ≡ map (cell_number scope.now.variables) (read_in scope.now counters.now spot.now).cells) }
-    ensures stops { IfFault result (λ found. walk_fault progress.old.count (spot_step spot.now.name.place (read_in scope.now counters.now spot.now) ∷ []) ≡ Some found) }
+    ensures takes { OnOk result
+        (Takes progress.old progress.new
+        (spot_step spot.now.name.place (read_in scope.now counters.now spot.now) ∷ []) progress.old.table) }
+    ensures cells { OnOk result
+        (progress.new.cells.items ≡ map (cell_number scope.now.variables)
+        (read_in scope.now counters.now spot.now).cells) }
+    ensures stops { IfFault result
+        (λ found. walk_fault progress.old.count
+        (spot_step spot.now.name.place (read_in scope.now counters.now spot.now) ∷ []) ≡ Some found) }
 {
     progress.cells.clear();
     let read = scope
@@ -54,9 +61,13 @@ pub fn read(
     spot: &Spot,
 ) -> Result<u32, Stop>
     ensures size { IfOk result (λ size. size ≡ length (read_in scope.now counters.now spot.now).cells) }
-    ensures makes { IfOk result (λ size. Makes progress.old progress.new size (spot_step spot.now.name.place (read_in scope.now counters.now spot.now) ∷ [])
+    ensures makes { IfOk result
+        (λ size. Makes progress.old progress.new size
+        (spot_step spot.now.name.place (read_in scope.now counters.now spot.now) ∷ [])
         (map (read_cell scope.now.variables) (read_in scope.now counters.now spot.now).cells)) }
-    ensures stops { IfFault result (λ found. walk_fault progress.old.count (spot_step spot.now.name.place (read_in scope.now counters.now spot.now) ∷ []) ≡ Some found) }
+    ensures stops { IfFault result
+        (λ found. walk_fault progress.old.count
+        (spot_step spot.now.name.place (read_in scope.now counters.now spot.now) ∷ []) ≡ Some found) }
 {
     read_cells(scope, counters, progress, spot)?;
     push_reads(&mut progress.table, progress.cells.as_slice())?;

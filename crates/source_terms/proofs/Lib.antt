@@ -1,0 +1,5 @@
+pub mod Fitting
+pub mod Words
+pub mod Reading
+pub mod CoreRun
+pub mod Agreeing

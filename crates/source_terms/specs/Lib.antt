@@ -1,0 +1,2 @@
+pub mod SourceTerms
+pub mod SourceLaws

@@ -1,0 +1,7 @@
+mod Adding
+mod Naming
+mod Stopping
+mod Reaching
+mod Standing
+mod Declaring
+mod Deciding

@@ -1,0 +1,28 @@
+-- What a file that is judged has: the file, its width, and its entry.
+use Rattle.std.specs.Prelude.{◌≡◌, ℕ, List, Option, Some}
+use Rattle.usuba_trees.specs.declared.File.{File}
+use Rattle.usuba_model.specs.Judging.{fault_of, IsJudged}
+use Rattle.usuba_types.specs.declared.judging.JudgeFault.{JudgeFault}
+use Rattle.usuba_types.specs.declared.judging.JudgeFault.TheVariants as judge_fault
+
+-- a judged file with its width, and its entry's place among the definitions, from 0
+pub record Program : Type 0 where
+  pub file : File
+  pub width : ℕ
+  pub entry : ℕ
+
+-- the program is a judged file, for some width and some entry that were asked for
+abbrev pub IsProgram : Program → Type 0
+IsProgram program =
+    (asked_width : Option ℕ) × (asked_entry : Option (List ℕ)) × IsJudged asked_width asked_entry program.file program.width program.entry
+
+-- a refusal has its cause: the first fault of the file; want of memory has none
+abbrev pub IsRefusal : Option ℕ → Option (List ℕ) → File → JudgeFault → Type 0
+IsRefusal asked_width asked_entry file (judge_fault.At kind place) =
+    fault_of asked_width asked_entry file ≡ Some (record { kind = kind; place = place })
+IsRefusal asked_width asked_entry file (judge_fault.Memory error) = Unit {0}
+
+-- an answer to a file: it is the program, which is judged
+pub record IsJudgedAs (asked_width : Option ℕ) (asked_entry : Option (List ℕ)) (file : File) (program : Program) : Type 0 where
+  pub same_file : program.file ≡ file
+  pub judged : IsJudged asked_width asked_entry file program.width program.entry

@@ -1,0 +1,5 @@
+pub mod Sizes
+pub mod SizeLaws
+pub mod Reach
+pub mod Judged
+pub mod State

@@ -1,0 +1,109 @@
+ghost use Rattle.std.specs.Prelude.{◌≡◌, option_map, IfOk, IfErr};
+ghost use Rattle.usuba_types.specs.declared.judging.JudgeFault.TheVariants.{Memory};
+ghost use Rattle.usuba_types.specs.Judged.{IsRefusal, IsJudgedAs};
+ghost use Rattle.usuba_types.specs.State.Deciding.{WasPassed, IsClean, IsLaterRefusal};
+
+use crate::passing::later_fault;
+use std::alloc::{AllocError, Global};
+use std::marker::Model;
+use thiserror::Error;
+use tor_edge::Place;
+use usuba_model::FaultKind;
+use usuba_phases::{Early, early_fault, early_faults_come_first};
+use usuba_trees::File;
+
+/// A file that passed all ten phases, with its width and its entry.
+#[derive(Drop)]
+pub struct Judged {
+    file: File,
+    width: u32,
+    entry: usize,
+}
+
+impl Model for Judged {
+    ghost use Rattle.std.specs.Coded.{codes};
+    ghost use Rattle.usuba_trees.specs.contracts.Item as item;
+    ghost use Rattle.usuba_types.specs.Judged.{Program, IsProgram};
+
+    ghost Value = { Program };
+
+    ghost coded = { Prim.hlevel (codes, item.the_row.coded) };
+
+    ghost view = { λ j. record { file = j.file; width = j.width; entry = j.entry } };
+
+    ghost invariant = { λ j. IsProgram (record { file = j.file; width = j.width; entry = j.entry }) };
+}
+
+/// Why a file is not judged.
+#[derive(Debug, Drop, Error)]
+pub enum JudgeFault {
+    /// The first fault of the first phase that has one.
+    #[error("the source has a fault")]
+    At(FaultKind, Place),
+    #[error("out of memory")]
+    Memory(AllocError),
+}
+
+impl From<AllocError> for JudgeFault {
+    ghost from_gives = { λ error fault. fault ≡ Memory error };
+
+    fn from(error: AllocError) -> Self {
+        JudgeFault::Memory(error)
+    }
+}
+
+impl Judged {
+    pub fn file(&self) -> &File
+        ensures { result.now ≡ self.now.file }
+    {
+        &self.file
+    }
+
+    /// The bits of an element.
+    pub fn width(&self) -> u32
+        ensures { result ≡ self.now.width }
+    {
+        self.width
+    }
+
+    /// The entry's place among the definitions, from 0.
+    pub fn entry(&self) -> usize
+        ensures { result ≡ self.now.entry }
+    {
+        self.entry
+    }
+}
+
+// What the later phases come to for a file that passed the first five.
+fn judge_passed(alloc: Global, file: File, width: u32, entry: usize) -> Result<Judged, JudgeFault>
+    requires { WasPassed file width entry }
+    ensures program { IfOk result (IsClean file width entry) }
+    ensures refusal { IfErr result (IsLaterRefusal file width entry) }
+{
+    early_faults_come_first();
+    match later_fault(alloc, width, &file, entry)? {
+        Some(fault) => Err(JudgeFault::At(fault.kind, fault.place)),
+        None => Ok(Judged { file, width, entry }),
+    }
+}
+
+/// Judges a file at the width and for the entry that are asked for; where none is asked for, the width is the first of a
+/// type, and the entry is the last node.
+pub fn judge(
+    alloc: Global,
+    file: File,
+    width: Option<u32>,
+    entry: Option<&str>,
+) -> Result<Judged, JudgeFault>
+    ensures program { IfOk result (IsJudgedAs width (option_map (λ name. name.now) entry.entry) file) }
+    ensures refusal { IfErr result (IsRefusal width (option_map (λ name. name.now) entry.entry) file) }
+{
+    early_faults_come_first();
+    match early_fault(alloc, &file, width, entry)? {
+        Early::Fault(fault) => Err(JudgeFault::At(fault.kind, fault.place)),
+        Early::Passed {
+            width: of_program,
+            entry: at,
+        } => judge_passed(alloc, file, of_program, at),
+    }
+}

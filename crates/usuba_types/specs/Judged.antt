@@ -1,7 +1,9 @@
 -- What a file that is judged has: the file, its width, and its entry.
-use Rattle.std.specs.Prelude.{◌≡◌, ℕ, List, Option, Some}
+use Rattle.std.specs.Prelude.{◌≡◌, ℕ, zero, suc, List, [], ◌∷◌, Option, Some}
+use Rattle.usuba_trees.specs.declared.Def.{Def}
 use Rattle.usuba_trees.specs.declared.File.{File}
 use Rattle.usuba_model.specs.Judging.{fault_of, IsJudged}
+use Rattle.usuba_model.specs.Walk.{signature}
 use Rattle.usuba_types.specs.declared.judging.JudgeFault.{JudgeFault}
 use Rattle.usuba_types.specs.declared.judging.JudgeFault.TheVariants as judge_fault
 
@@ -26,3 +28,15 @@ IsRefusal asked_width asked_entry file (judge_fault.Memory error) = Unit {0}
 pub record IsJudgedAs (asked_width : Option ℕ) (asked_entry : Option (List ℕ)) (file : File) (program : Program) : Type 0 where
   pub same_file : program.file ≡ file
   pub judged : IsJudged asked_width asked_entry file program.width program.entry
+
+-- how many elements the definition at a number takes; none past all
+abbrev pub inputs_at : List Def → ℕ → ℕ
+inputs_at [] k = 0
+inputs_at (d ∷ rest) zero = (signature d).inputs
+inputs_at (d ∷ rest) (suc k) = inputs_at rest k
+
+-- how many elements the definition at a number gives; none past all
+abbrev pub outputs_at : List Def → ℕ → ℕ
+outputs_at [] k = 0
+outputs_at (d ∷ rest) zero = (signature d).outputs
+outputs_at (d ∷ rest) (suc k) = outputs_at rest k

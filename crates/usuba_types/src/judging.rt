@@ -1,8 +1,9 @@
 ghost use Rattle.std.specs.Prelude.{◌≡◌, option_map, IfOk, IfErr};
 ghost use Rattle.usuba_types.specs.declared.judging.JudgeFault.TheVariants.{Memory};
-ghost use Rattle.usuba_types.specs.Judged.{IsRefusal, IsJudgedAs};
+ghost use Rattle.usuba_types.specs.Judged.{IsRefusal, IsJudgedAs, inputs_at, outputs_at};
 ghost use Rattle.usuba_types.specs.State.Deciding.{WasPassed, IsClean, IsLaterRefusal};
 
+use crate::counts::{Counts, counts_of};
 use crate::passing::later_fault;
 use std::alloc::{AllocError, Global};
 use std::marker::Model;
@@ -71,6 +72,27 @@ impl Judged {
         ensures { result ≡ self.now.entry }
     {
         self.entry
+    }
+
+    /// How many elements the entry takes.
+    pub fn input_count(&self) -> u32
+        ensures { result ≡ inputs_at self.now.file.defs self.now.entry }
+    {
+        self.entry_counts().inputs
+    }
+
+    /// How many elements the entry gives.
+    pub fn output_count(&self) -> u32
+        ensures { result ≡ outputs_at self.now.file.defs self.now.entry }
+    {
+        self.entry_counts().outputs
+    }
+
+    fn entry_counts(&self) -> Counts
+        ensures inputs { result.inputs ≡ inputs_at self.now.file.defs self.now.entry }
+        ensures outputs { result.outputs ≡ outputs_at self.now.file.defs self.now.entry }
+    {
+        counts_of(&self.file.defs.as_slice()[self.entry])
     }
 }
 

@@ -1,12 +1,13 @@
 -- The definition that is found at a place, and those that one is added to.
-use Rattle.std.proofs.Common.{◌≡◌, ℕ, ◌-◌, ◌<◌, ◌≤◌, Bool, true, false, List, [], ◌∷◌, ◌++◌, length, map, reverse, get_or, Option, Some, None, refl, sym, ap, ◌∙◌, arith}
+use Rattle.std.proofs.Common.{◌≡◌, ℕ, ◌-◌, ◌<◌, ◌≤◌, Bool, true, false, List, [], ◌∷◌, ◌++◌, length, map, reverse, get_or, Option, Some, None, refl, sym, ap, ◌∙◌, subst, arith}
 use Rattle.std.specs.Prelude.{if◌then◌else◌, bytes_eq}
 use Rattle.std.proofs.lemmas.List.{map-append, reverse-append, get_or_append_left, get_or-append_right, length-reverse, length-map, reverse-reverse, get_or-map}
 use Rattle.std.proofs.lemmas.Option.{none-some, same_Some}
+use Rattle.std.proofs.lemmas.Slice.Eq.{bytes_eq-Decides}
 use Rattle.usuba_model.specs.Numbers.{callee_number}
 use Rattle.usuba_model.specs.Walk.{Signature, signature_of}
 use Rattle.usuba_walk.specs.declared.definitions.Known.{Known}
-use Rattle.usuba_walk.specs.Signatures.{signature_of_known, latest_first, place_of}
+use Rattle.usuba_walk.specs.Signatures.{signature_of_known, latest_first, place_of, HasOwnName}
 
 -- a definition that is added is the latest
 pub latest_first-added : (known : List Known) (next : Known) → latest_first (known ++ next ∷ []) ≡ signature_of_known next ∷ latest_first known
@@ -96,3 +97,24 @@ places-added known next before after held updated name =
     ∙ ap (λ o. if bytes_eq next.name.now name then Some (length known) else o) (held name)
     ∙ ap (λ n. if bytes_eq next.name.now name then Some n else place_of (latest_first known) name) (sym size)
     ∙ ap (λ l. place_of l name) (sym (latest_first-added known next))
+
+-- once the latest definition is forgotten, whose name is its own, the others are found where they were
+pub places-forgotten : (known : List Known) (latest : Known) (before after : List ℕ → Option ℕ)
+    → ((name : List ℕ) → before name ≡ place_of (latest_first (known ++ latest ∷ [])) name)
+    → ((name : List ℕ) → after name ≡ (if bytes_eq latest.name.now name then None else before name))
+    → HasOwnName (latest_first (known ++ latest ∷ []))
+    → (name : List ℕ) → after name ≡ place_of (latest_first known) name
+places-forgotten known latest before after held updated own name =
+    updated name ∙ by (bytes_eq latest.name.now name) refl
+  where
+    earlier : place_of (latest_first known) latest.name.now ≡ None
+    earlier = subst HasOwnName (latest_first-added known latest) own
+
+    there : before name ≡ place_of (signature_of_known latest ∷ latest_first known) name
+    there = held name ∙ ap (λ l. place_of l name) (latest_first-added known latest)
+
+    by : (b : Bool) → bytes_eq latest.name.now name ≡ b → (if b then None else before name) ≡ place_of (latest_first known) name
+    by true is =
+        let same : latest.name.now ≡ name = (bytes_eq-Decides latest.name.now name).0 is in
+        sym (ap (place_of (latest_first known)) (sym same) ∙ earlier)
+    by false is = there ∙ ap (λ b. if b then Some (length (latest_first known)) else place_of (latest_first known) name) is

@@ -1,5 +1,5 @@
 -- What calls see of earlier definitions that are listed in text order.
-use Rattle.std.specs.Prelude.{ℕ, List, [], ◌∷◌, length, map, reverse, Option, Some, None, if◌then◌else◌, bytes_eq}
+use Rattle.std.specs.Prelude.{◌≡◌, ℕ, List, [], ◌∷◌, length, map, reverse, Option, Some, None, if◌then◌else◌, bytes_eq}
 use Rattle.usuba_model.specs.Walk.{Signature}
 use Rattle.usuba_walk.specs.declared.definitions.Known.{Known}
 
@@ -15,3 +15,13 @@ latest_first known = reverse (map signature_of_known known)
 abbrev pub place_of : List Signature → List ℕ → Option ℕ
 place_of [] name = None
 place_of (s ∷ earlier) name = if bytes_eq s.name name then Some (length earlier) else place_of earlier name
+
+-- no earlier definition has the name of the latest
+abbrev pub HasOwnName : List Signature → Type 0
+HasOwnName [] = Unit {0}
+HasOwnName (s ∷ earlier) = place_of earlier s.name ≡ None
+
+-- the definitions before the latest
+abbrev pub before_latest : List Signature → List Signature
+before_latest [] = []
+before_latest (s ∷ earlier) = earlier

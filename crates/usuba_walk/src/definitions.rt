@@ -1,6 +1,7 @@
 ghost use Rattle.std.specs.Prelude.{◌≡◌, [], ◌∷◌, OnOk};
 ghost use Rattle.usuba_model.specs.Numbers.{callee_number};
 ghost use Rattle.usuba_model.specs.Walk.{signature_of};
+ghost use Rattle.usuba_walk.specs.Signatures.{HasOwnName, before_latest};
 
 use std::alloc::{AllocError, Global};
 use std::collections::HashMap;
@@ -71,6 +72,16 @@ impl<'a> Definitions<'a> {
                 let _ = self.known.pop();
                 Err(AllocError)
             }
+        }
+    }
+
+    /// Forgets the latest definition, whose name is that of no earlier one.
+    pub fn forget(&mut self)
+        requires { HasOwnName self.old }
+        ensures { self.new ≡ before_latest self.old }
+    {
+        if let Some(latest) = self.known.pop() {
+            let _ = self.places.remove(latest.name);
         }
     }
 

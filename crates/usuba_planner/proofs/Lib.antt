@@ -1,0 +1,4 @@
+mod Declaring
+mod Calling
+mod Sounding
+mod Planning

@@ -1,0 +1,3 @@
+-- What the contracts of private functions cite. No public clause needs these files.
+pub mod Calls
+pub mod Sound

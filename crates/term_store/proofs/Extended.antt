@@ -1,22 +1,22 @@
 -- A builder that was extended is a store of terms that keeps what it held.
-use Rattle.std.proofs.Common.{◌≡◌, ℕ, ◌+◌, ◌-◌, ◌≤◌, ◌<◌, List, [], ◌∷◌, ◌++◌, length, map, get_or, Some, refl, sym, ap, ◌∙◌, arith, zero, suc}
+use Rattle.std.proofs.Common.{ℕ, ◌≤◌, List, [], ◌∷◌, length, ap, arith}
 use Rattle.std.specs.Prelude.{All}
 use Rattle.std.proofs.lemmas.List.Elements.{All-head, All-tail, All-cons}
 use Rattle.usuba0.specs.declared.circuit.Reg.{Reg}
-use Rattle.usuba0.specs.declared.limit.TheConstants.{MAX_TERMS}
 use Rattle.usuba0.specs.Term.{Term}
-use Rattle.usuba0.specs.Builder.{Held, Holds, Names, Grows, term_of}
+use Rattle.usuba0.specs.Builder.{Held, Names, Grows}
 use Rattle.usuba0.proofs.KeepLemmas.{Holds-named, term_of-named}
 use Rattle.table_anf.specs.Extends.{Extends}
-use Rattle.table_anf.proofs.Extending.{Extends-grows, Extends-itself, Extends-more, length-extends, Holds-extends, term_of-extends}
+use Rattle.table_anf.proofs.Extending.{Extends-grows, Extends-itself, length-extends, Holds-extends, term_of-extends}
 use Rattle.usuba_code.specs.CodeLaw.{Each}
-use Rattle.usuba_plan.specs.Store.{Made, Gives, Keeps, meanings}
+use Rattle.usuba_plan.specs.Store.{Made, Keeps}
 use Rattle.term_store.specs.Operators.{term_store, term_operators}
 
 -- what was extended by at most so many terms keeps what it held
 pub kept : (k : ℕ) (a b : Held) → Extends k a b → Keeps k (term_store a) (term_store b)
 kept k a b e = record {
   width = e.width;
+  inputs = e.inputs;
   operators = ap term_operators e.width;
   held = λ r held. Holds-extends k a b r e held;
   means = λ r held. term_of-extends k a b r e held;

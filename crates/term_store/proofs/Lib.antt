@@ -1,1 +1,2 @@
 mod Extended
+mod PlanCores

@@ -43,6 +43,7 @@ term_operators w = record {
 abbrev pub term_store : Held → Store Reg Term
 term_store held = record {
   width = held.width;
+  inputs = held.inputs;
   operators = term_operators held.width;
   holds = Holds held;
   meaning = term_of held;

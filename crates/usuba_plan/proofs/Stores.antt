@@ -8,11 +8,12 @@ use Rattle.usuba_plan.specs.State.Handles.{handle_at, environment_of, CellsHeld}
 
 module _ {H V : Type 0} where
   pub kept_itself : (s : Store H V) → Keeps 0 s s
-  kept_itself s = record { width = refl; operators = refl; held = λ h k. k; means = λ h k. refl; room = omega arith }
+  kept_itself s = record { width = refl; inputs = refl; operators = refl; held = λ h k. k; means = λ h k. refl; room = omega arith }
 
   pub kept_within : (m k : ℕ) (a b : Store H V) → Keeps m a b → m ≤ k → Keeps k a b
   kept_within m k a b f le = record {
     width = f.width;
+    inputs = f.inputs;
     operators = f.operators;
     held = f.held;
     means = f.means;
@@ -22,6 +23,7 @@ module _ {H V : Type 0} where
   pub kept_on : (m n : ℕ) (a b c : Store H V) → Keeps m a b → Keeps n b c → Keeps (m + n) a c
   kept_on m n a b c f g = record {
     width = g.width ∙ f.width;
+    inputs = g.inputs ∙ f.inputs;
     operators = g.operators ∙ f.operators;
     held = λ h d. g.held h (f.held h d);
     means = λ h d. g.means h (f.held h d) ∙ f.means h d;

@@ -10,7 +10,8 @@ use Rattle.table_anf.specs.Extends.{Extends}
 use Rattle.table_anf.proofs.Extending.{Extends-grows, Extends-itself, length-extends, Holds-extends, term_of-extends}
 use Rattle.usuba_code.specs.CodeLaw.{Each}
 use Rattle.usuba_plan.specs.Store.{Made, Keeps}
-use Rattle.term_store.specs.Operators.{term_store, term_operators}
+use Rattle.source_terms.specs.SourceTerms.{term_operators}
+use Rattle.term_store.specs.TermStore.{term_store}
 
 -- what was extended by at most so many terms keeps what it held
 pub kept : (k : ℕ) (a b : Held) → Extends k a b → Keeps k (term_store a) (term_store b)

@@ -1,7 +1,9 @@
 -- From the registers of the inputs to the core of what a plan makes of them.
-use Rattle.std.proofs.Common.{◌≡◌, ℕ, suc, ◌+◌, ◌≤◌, ◌<◌, List, [], ◌∷◌, ◌++◌, length, map, Some, refl, sym, ap, subst, ◌∙◌, arith}
+use Rattle.std.proofs.Common.{◌≡◌, ℕ, ◌+◌, ◌≤◌, ◌<◌, List, [], ◌∷◌, ◌++◌, length, map, Some, refl, sym, ap, subst, ◌∙◌, arith}
 use Rattle.std.specs.Prelude.{All, IsSome, IfSome, IfOk, Option, Result, Ok, Err, option_map}
-use Rattle.std.proofs.lemmas.List.{length-map}
+use Rattle.std.specs.List.{range_with_len}
+use Rattle.std.proofs.lemmas.List.{length-map, map_push}
+use Rattle.std.proofs.lemmas.List.FromFn.{length-range_with_len}
 use Rattle.usuba_trees.specs.declared.Def.{Def}
 use Rattle.usuba0.specs.declared.circuit.Reg.{Reg}
 use Rattle.usuba0.specs.declared.limit.TheConstants.{MAX_TERMS}
@@ -9,6 +11,7 @@ use Rattle.usuba0.specs.Term.{Term, Input}
 use Rattle.usuba0.specs.Builder.{Held, Holds, Names, term_of, input_terms}
 use Rattle.usuba0.specs.CoreOfTerms.{core_of_terms}
 use Rattle.usuba0.proofs.HeadLemmas.{length-inputs}
+use Rattle.usuba0.proofs.StartLemmas.{range-push}
 use Rattle.table_anf.specs.State.Emission.{StandFor}
 use Rattle.table_anf.proofs.Extending.{StandFor-push}
 use Rattle.std.specs.Option.{unwrap_or}
@@ -18,35 +21,43 @@ use Rattle.usuba_plan.specs.Room.{plan_room}
 use Rattle.usuba_plan.specs.Running.{CanRun}
 use Rattle.usuba_plan.specs.Store.{Gives, Keeps}
 use Rattle.usuba_plan.specs.declared.plans.Plan.{Plan}
-use Rattle.term_store.specs.Operators.{term_store, term_operators}
-use Rattle.term_store.specs.PlanCore.{plan_terms, plan_core, CanMake, CanMakeCore}
+use Rattle.source_terms.specs.SourceTerms.{term_operators}
+use Rattle.term_store.specs.TermStore.{term_store}
+use Rattle.term_store.specs.PlanCore.{terms_of_inputs, plan_terms, plan_core, CanMake, CanMakeCore}
 use Rattle.term_store.proofs.Extended.{each_of_all, all_of_each}
 
+-- the terms of one input more
+one_input_more : (k : ℕ) → terms_of_inputs (k + 1) ≡ terms_of_inputs k ++ Input k ∷ []
+one_input_more k =
+    let place : 0 + k ≡ k = omega arith in
+    ap (map Input) (range-push 0 k) ∙ map_push Input (range_with_len 0 k) (0 + k)
+    ∙ ap (λ (m : ℕ). terms_of_inputs k ++ Input m ∷ []) place
+
 -- no registers stand for no inputs
-pub inputs_start : (a : Held) → StandFor a [] (input_terms 0)
+pub inputs_start : (a : Held) → StandFor a [] (terms_of_inputs 0)
 inputs_start a = record { held = λ i d l. absurd (omega (arith, l)); terms = refl }
 
 -- the register of one more input
-pub inputs_go_on : (a : Held) (k : ℕ) (rs after : List Reg) (r : Reg) → StandFor a rs (input_terms k) → Names a r (Input k)
-    → after ≡ rs ++ r ∷ [] → StandFor a after (input_terms (k + 1))
+pub inputs_go_on : (a : Held) (k : ℕ) (rs after : List Reg) (r : Reg) → StandFor a rs (terms_of_inputs k) → Names a r (Input k)
+    → after ≡ rs ++ r ∷ [] → StandFor a after (terms_of_inputs (k + 1))
 inputs_go_on a k rs after r stand named is =
-    let next : k + 1 ≡ suc k = omega arith in
-    subst (λ (n : ℕ). StandFor a after (input_terms n)) (sym next)
-    (subst (λ (l : List Reg). StandFor a l (input_terms (suc k))) (sym is) (StandFor-push a rs (input_terms k) r (Input k) stand named))
+    subst (λ (ts : List Term). StandFor a after ts) (sym (one_input_more k))
+    (subst (λ (l : List Reg). StandFor a l (terms_of_inputs k ++ Input k ∷ [])) (sym is)
+    (StandFor-push a rs (terms_of_inputs k) r (Input k) stand named))
 
 -- a plan can be run on the registers of the inputs
 pub can_run : (a : Held) (defs : List Def) (plans : List Plan) (number n : ℕ) (rs : List Reg) → CanMake a defs plans number n
-    → StandFor a rs (input_terms n) → CanRun (term_store a) defs plans number rs
+    → StandFor a rs (terms_of_inputs n) → CanRun (term_store a) defs plans number rs
 can_run a defs plans number n rs can stand = record {
   fits = can.fits;
   held = each_of_all (Holds a) rs stand.held;
-  count = sym (length-map rs (term_of a)) ∙ ap length stand.terms ∙ length-inputs n ∙ can.count;
+  count = sym (length-map rs (term_of a)) ∙ ap length stand.terms ∙ length-map (range_with_len 0 n) Input ∙ length-range_with_len 0 n ∙ can.count;
   room = can.room;
   makes = subst (λ (ts : List Term). IsSome (plan_outcome (term_operators a.width) defs plans number ts)) (sym stand.terms) can.makes;
 }
 
 -- what the plan makes of the registers of the inputs is what it makes of the inputs
-pub run_gives : (a b : Held) (defs : List Def) (plans : List Plan) (number n : ℕ) (rs outputs : List Reg) → StandFor a rs (input_terms n)
+pub run_gives : (a b : Held) (defs : List Def) (plans : List Plan) (number n : ℕ) (rs outputs : List Reg) → StandFor a rs (terms_of_inputs n)
     → Gives (term_store b) outputs (plan_outcome (term_operators a.width) defs plans number (map (term_of a) rs))
     → Gives (term_store b) outputs (plan_terms a.width defs plans number n)
 run_gives a b defs plans number n rs outputs stand gives =

@@ -1,2 +1,2 @@
-pub mod Operators
+pub mod TermStore
 pub mod PlanCore

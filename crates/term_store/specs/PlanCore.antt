@@ -1,20 +1,25 @@
 -- The core of what a plan makes of the inputs, and what making it asks for.
-use Rattle.std.specs.Prelude.{◌≡◌, ℕ, ◌+◌, ◌-◌, ◌<◌, ◌≤◌, List, length, Option, Some, option_map, IsSome}
+use Rattle.std.specs.Prelude.{◌≡◌, ℕ, ◌+◌, ◌-◌, ◌<◌, ◌≤◌, List, length, map, Option, Some, option_map, IsSome}
+use Rattle.std.specs.List.{range_with_len}
 use Rattle.usuba_trees.specs.declared.Def.{Def}
 use Rattle.usuba0.specs.declared.limit.TheConstants.{MAX_TERMS}
-use Rattle.usuba0.specs.Builder.{Held, input_terms}
+use Rattle.usuba0.specs.Builder.{Held}
 use Rattle.usuba0.specs.Circuit.{Circuit}
 use Rattle.usuba0.specs.CoreOfTerms.{core_of_terms}
-use Rattle.usuba0.specs.Term.{Term}
+use Rattle.usuba0.specs.Term.{Term, Input}
 use Rattle.usuba_plan.specs.Fit.{inputs_at, AllFit}
 use Rattle.usuba_plan.specs.Made.{plan_outcome}
 use Rattle.usuba_plan.specs.Room.{plan_room}
 use Rattle.usuba_plan.specs.declared.plans.Plan.{Plan}
-use Rattle.term_store.specs.Operators.{term_operators}
+use Rattle.source_terms.specs.SourceTerms.{term_operators}
+
+-- the terms of n inputs, in order
+abbrev pub terms_of_inputs : ℕ → List Term
+terms_of_inputs n = map Input (range_with_len 0 n)
 
 -- the terms that the definition at a number makes of its n inputs by its plan, at width w
 abbrev pub plan_terms : ℕ → List Def → List Plan → ℕ → ℕ → Option (List Term)
-plan_terms w defs plans number n = plan_outcome (term_operators w) defs plans number (input_terms n)
+plan_terms w defs plans number n = plan_outcome (term_operators w) defs plans number (terms_of_inputs n)
 
 -- the core of these terms
 abbrev pub plan_core : ℕ → List Def → List Plan → ℕ → ℕ → Option Circuit

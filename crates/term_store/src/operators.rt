@@ -1,5 +1,5 @@
 ghost use Rattle.std.specs.Prelude.{◌≡◌};
-ghost use Rattle.term_store.specs.Operators.{turn_of};
+ghost use Rattle.source_terms.specs.SourceTerms.{turn_of};
 
 use crate::terms::Terms;
 use std::alloc::{AllocError, Global};
@@ -21,7 +21,7 @@ fn turn(kind: ShiftKind) -> Turn
 
 impl Elements for Terms {
     ghost use Rattle.usuba0.specs.Term.{Term};
-    ghost use Rattle.term_store.specs.Operators.{term_store};
+    ghost use Rattle.term_store.specs.TermStore.{term_store};
 
     type Handle = Reg;
 

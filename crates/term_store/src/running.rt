@@ -1,11 +1,10 @@
 ghost use Rattle.std.specs.Prelude.{◌≡◌, ◌<◌, ◌≤◌, IfOk, IfSome, Some};
-ghost use Rattle.usuba0.specs.Builder.{input_terms};
 ghost use Rattle.usuba0.specs.Circuit.{IsSmall, HasFewColumns, weight, columns};
 ghost use Rattle.table_anf.specs.State.Emission.{StandFor};
 ghost use Rattle.usuba_plan.specs.Room.{plan_room};
 ghost use Rattle.usuba_plan.specs.Store.{Gives, Keeps};
-ghost use Rattle.term_store.specs.Operators.{term_store};
-ghost use Rattle.term_store.specs.PlanCore.{plan_terms, plan_core, CanMake, CanMakeCore};
+ghost use Rattle.term_store.specs.TermStore.{term_store};
+ghost use Rattle.term_store.specs.PlanCore.{terms_of_inputs, plan_terms, plan_core, CanMake, CanMakeCore};
 
 use crate::terms::Terms;
 use std::alloc::{AllocError, Global};
@@ -16,7 +15,7 @@ use usuba0::{CloseFault, Core, MAX_COLUMNS, MAX_WEIGHT, Reg};
 // The registers of the first so many inputs.
 fn input_registers(alloc: Global, terms: &Terms, inputs: u32) -> Result<Vec<Reg>, AllocError>
     requires { inputs ≤ terms.now.builder.inputs }
-    ensures { IfOk result (λ registers. StandFor terms.now.builder registers.items (input_terms inputs)) }
+    ensures { IfOk result (λ registers. StandFor terms.now.builder registers.items (terms_of_inputs inputs)) }
 {
     let mut registers = Vec::new(alloc);
     for k in 0..inputs {

@@ -25,8 +25,8 @@ plan_terms w defs plans number n = plan_outcome (term_operators w) defs plans nu
 abbrev pub plan_core : ℕ → List Def → List Plan → ℕ → ℕ → Option Circuit
 plan_core w defs plans number n = option_map (core_of_terms w n) (plan_terms w defs plans number n)
 
--- a builder of n inputs can make the terms of the definition at a number: the plans fit, the definition has n inputs, there is
--- room for the terms, and by its plan it makes some
+-- a builder of n inputs can make the terms of the definition at a number: the plans fit, the definition has n inputs,
+-- there is room for the terms, and by its plan it makes some
 pub record CanMake (held : Held) (defs : List Def) (plans : List Plan) (number n : ℕ) : Type 0 where
   pub inputs : n ≡ held.inputs
   pub fits : AllFit held.width defs plans
@@ -34,8 +34,8 @@ pub record CanMake (held : Held) (defs : List Def) (plans : List Plan) (number n
   pub room : plan_room defs plans number ≤ MAX_TERMS - length held.terms
   pub makes : IsSome (plan_terms held.width defs plans number n)
 
--- the core of the definition at a number can be made, at width w and of its n inputs: the plans fit, there is room for the
--- inputs and all terms, and by its plan it makes output terms, of which there are some and not too many
+-- the core of the definition at a number can be made, at width w and of its n inputs: the plans fit, there is room for
+-- the inputs and all terms, and by its plan it makes output terms, of which there are some and not too many
 pub record CanMakeCore (w : ℕ) (defs : List Def) (plans : List Plan) (number n : ℕ) : Type 0 where
   pub fits : AllFit w defs plans
   pub count : n ≡ inputs_at defs number

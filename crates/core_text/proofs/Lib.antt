@@ -1,0 +1,4 @@
+pub mod BodyLemmas
+pub mod FormLemmas
+pub mod WordLemmas
+pub mod LineLemmas

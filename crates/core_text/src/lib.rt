@@ -1,0 +1,11 @@
+//! The text of a core as input.
+#![tactic(auto)]
+
+mod fault;
+mod line;
+mod operand;
+mod read;
+mod right_side;
+
+pub use fault::CoreFault;
+pub use read::{read_core, read_is_written, written_is_read};

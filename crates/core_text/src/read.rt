@@ -1,0 +1,106 @@
+ghost use Rattle.std.specs.Prelude.{◌≡◌, ◌+◌, ◌<◌, ◌≤◌, ◌^◌, ◌∷◌, Some, Ok, true, ℕ, List, length, MatchResult};
+ghost use Rattle.core_text.specs.Parts.{rest_of, IsAnswer, answer_kept, kept_body};
+ghost use Rattle.core_text.specs.Ranges as ranges;
+ghost use Rattle.core_text.specs.Reading as reading;
+ghost use Rattle.text_lines.specs.Lines.{first_words};
+ghost use Rattle.usuba0.specs.Circuit.{Circuit, IsCore, IsSmall, HasFewColumns};
+ghost use Rattle.usuba0.specs.CoreText.{core_text};
+
+use crate::fault::CoreFault;
+use crate::line::{equation_line, inputs_line, is_outputs, outputs_line, width_line};
+use std::alloc::Global;
+use text_lines::{Lines, Words};
+use usuba0::{Core, Gate, MAX_COLUMNS, Reg};
+
+/// Reads a core from its text.
+pub fn read_core(alloc: Global, bytes: &[u8]) -> Result<Core, CoreFault>
+    requires { length bytes.now ≤ 2 ^ 31 }
+    ensures { reading.IsOrMemory result (reading.core_of bytes.now) }
+{
+    let mut lines = Lines::new(bytes);
+    let (line, words) = due_line(&mut lines)?;
+    let width = width_line(line, words)?;
+    let (line, words) = due_line(&mut lines)?;
+    let inputs = inputs_line(line, words)?;
+    let read = read_body(alloc, width, inputs, &mut lines)?;
+    core_within(width, inputs, read)
+}
+
+/// The equations and the outputs of a text.
+#[derive(Drop)]
+pub(crate) struct Read {
+    pub(crate) equations: Vec<Gate>,
+    pub(crate) outputs: Vec<Reg>,
+}
+
+// The number of the line that is due, and its words.
+fn due_line<'a>(lines: &mut Lines<'a>) -> Result<(u64, Words<'a>), CoreFault>
+    ensures { MatchResult result
+        (λ line. (line.0 ≡ lines.old.number) × (lines.old.lines ≡ Some line.1 ∷ lines.new.lines) × (lines.new.number ≡ line.0 + 1))
+        (λ fault. (fault ≡ CoreFault.Syntax lines.old.number) × (first_words lines.old.lines ≡ None)) }
+{
+    let number = lines.number();
+    let words = lines.next_line().ok_or(CoreFault::Syntax(number))?;
+    Ok((number, words))
+}
+
+// The equations and the outputs, where the first equation makes register `inputs`.
+fn read_body(
+    alloc: Global,
+    width: u32,
+    inputs: u32,
+    lines: &mut Lines<'_>,
+) -> Result<Read, CoreFault>
+    requires width { width ≤ 64 }
+    requires few { length lines.old.lines ≤ 2 ^ 32 }
+    ensures { IsAnswer (λ read. record { equations = read.equations.items; outputs = read.outputs.items }) result
+        (answer_kept kept_body (rest_of width inputs lines.old)) }
+{
+    let mut equations = Vec::new(alloc);
+    let mut next = u64::from(inputs);
+    let (mut line, mut words) = due_line(lines)?;
+    while !is_outputs(words.copy()) {
+        equations.push(equation_line(width, next, line, words)?)?;
+        next += 1;
+        (line, words) = due_line(lines)?;
+    }
+    let outputs = outputs_line(alloc, next, line, words)?;
+    if !lines.is_over() {
+        return Err(CoreFault::Syntax(lines.number()));
+    }
+    Ok(Read { equations, outputs })
+}
+
+// The circuit, if it is within the limits. The registers of one with more inputs than columns may have been cut.
+fn core_within(width: u32, inputs: u32, read: Read) -> Result<Core, CoreFault>
+    requires some_width { 0 < width }
+    requires few_equations { length read.equations.items < 2 ^ 32 }
+    requires few_outputs { length read.outputs.items < 2 ^ 32 }
+    requires core { inputs ≤ MAX_COLUMNS
+        → IsCore (record { width = width; inputs = inputs; equations = read.equations.items; outputs = read.outputs.items }) }
+    ensures { result ≡ reading.within_limits
+        (Ok (record { width = width; inputs = inputs; equations = read.equations.items; outputs = read.outputs.items })) }
+{
+    let Read { equations, outputs } = read;
+    if u64::from(inputs) > MAX_COLUMNS {
+        return Err(CoreFault::Limit);
+    }
+    let core = Core::new(width, inputs, equations, outputs);
+    if core.fits() {
+        Ok(core)
+    } else {
+        Err(CoreFault::Limit)
+    }
+}
+
+/// What is written of a core within the limits is read as the same core.
+pub fn written_is_read()
+    ensures { (core : Circuit) → IsCore core → IsSmall core → HasFewColumns core
+        → reading.core_of (core_text core) ≡ Ok core }
+{}
+
+/// Bytes are read as a core only where it is one, is within the limits, and they are its text.
+pub fn read_is_written()
+    ensures { (bytes : List ℕ) (core : Circuit) → reading.core_of bytes ≡ Ok core
+        → IsCore core × IsSmall core × HasFewColumns core × (bytes ≡ core_text core) }
+{}

@@ -50,7 +50,7 @@ more_of gs gate (Ok said) (Ok body) e =
     ∙ ap (λ (es : List Gate). Ok (record { equations = es; outputs = outputs })) (sym (append_assoc gs (gate ∷ []) others))
 
 -- a line that is no line of outputs
-equation_at : (w n k : ℕ) (words : List (List ℕ)) (lines : List (Option (List (List ℕ)))) → is_outputs words ≡ false
+pub equation_at : (w n k : ℕ) (words : List (List ℕ)) (lines : List (Option (List (List ℕ)))) → is_outputs words ≡ false
     → body_from w n k (Some words ∷ lines) ≡ with_equation (equation_line w n k words) (body_from w (suc n) (k + 1) lines)
 equation_at w n k words lines h =
     cond-false (is_outputs words) (with_outputs (outputs_line n k words) (k + 1) lines) (with_equation (equation_line w n k words) (body_from w (suc n) (k + 1) lines)) h
@@ -85,7 +85,7 @@ no_line w n k [] gs h = refl
 no_line w n k (None ∷ lines) gs h = refl
 no_line w n k (Some words ∷ lines) gs h = absurd (no_words words h)
 
-outputs_at : (w n k : ℕ) (words : List (List ℕ)) (lines : List (Option (List (List ℕ)))) → is_outputs words ≡ true
+pub outputs_at : (w n k : ℕ) (words : List (List ℕ)) (lines : List (Option (List (List ℕ)))) → is_outputs words ≡ true
     → body_from w n k (Some words ∷ lines) ≡ with_outputs (outputs_line n k words) (k + 1) lines
 outputs_at w n k words lines h =
     cond-true (is_outputs words) (with_outputs (outputs_line n k words) (k + 1) lines) (with_equation (equation_line w n k words) (body_from w (suc n) (k + 1) lines)) h

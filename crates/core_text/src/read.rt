@@ -1,4 +1,4 @@
-ghost use Rattle.std.specs.Prelude.{◌≡◌, ◌+◌, ◌<◌, ◌≤◌, ◌^◌, ◌∷◌, Some, Ok, true, ℕ, List, length, MatchResult};
+ghost use Rattle.std.specs.Prelude.{◌≡◌, ◌+◌, ◌<◌, ◌≤◌, ◌^◌, ◌∷◌, Some, Ok, Err, true, ℕ, List, length, MatchResult, IfOk};
 ghost use Rattle.core_text.specs.Parts.{rest_of, IsAnswer, answer_kept, kept_body};
 ghost use Rattle.core_text.specs.Ranges as ranges;
 ghost use Rattle.core_text.specs.Reading as reading;
@@ -7,23 +7,21 @@ ghost use Rattle.usuba0.specs.Circuit.{Circuit, IsCore, IsSmall, HasFewColumns};
 ghost use Rattle.usuba0.specs.CoreText.{core_text};
 
 use crate::fault::CoreFault;
+use crate::parts::CoreParts;
 use crate::line::{equation_line, inputs_line, is_outputs, outputs_line, width_line};
 use std::alloc::Global;
 use text_lines::{Lines, Words};
-use usuba0::{Core, Gate, MAX_COLUMNS, Reg};
+use usuba0::{Gate, MAX_COLUMNS, Reg};
 
 /// Reads a core from its text.
-pub fn read_core(alloc: Global, bytes: &[u8]) -> Result<Core, CoreFault>
+pub fn read_parts(alloc: Global, bytes: &[u8]) -> Result<CoreParts, CoreFault>
     requires { length bytes.now ≤ 2 ^ 31 }
     ensures { reading.IsOrMemory result (reading.core_of bytes.now) }
 {
     let mut lines = Lines::new(bytes);
-    let (line, words) = due_line(&mut lines)?;
-    let width = width_line(line, words)?;
-    let (line, words) = due_line(&mut lines)?;
-    let inputs = inputs_line(line, words)?;
+    let (width, inputs) = read_head(&mut lines)?;
     let read = read_body(alloc, width, inputs, &mut lines)?;
-    core_within(width, inputs, read)
+    parts_within(width, inputs, read)
 }
 
 /// The equations and the outputs of a text.
@@ -42,6 +40,22 @@ fn due_line<'a>(lines: &mut Lines<'a>) -> Result<(u64, Words<'a>), CoreFault>
     let number = lines.number();
     let words = lines.next_line().ok_or(CoreFault::Syntax(number))?;
     Ok((number, words))
+}
+
+// The width and the inputs.
+fn read_head(lines: &mut Lines<'_>) -> Result<(u32, u32), CoreFault>
+    requires { lines.old.number ≡ 1 }
+    ensures text { MatchResult result
+        (λ head. reading.from_width lines.old.lines ≡ reading.circuit_with head.0 head.1 (rest_of head.0 head.1 lines.new))
+        (λ fault. reading.from_width lines.old.lines ≡ Err fault) }
+    ensures width { IfOk result (λ head. (0 < head.0) × (head.0 ≤ 64)) }
+    ensures fewer { IfOk result (λ head. length lines.new.lines ≤ length lines.old.lines) }
+{
+    let (line, words) = due_line(lines)?;
+    let width = width_line(line, words)?;
+    let (line, words) = due_line(lines)?;
+    let inputs = inputs_line(line, words)?;
+    Ok((width, inputs))
 }
 
 // The equations and the outputs, where the first equation makes register `inputs`.
@@ -72,7 +86,7 @@ fn read_body(
 }
 
 // The circuit, if it is within the limits. The registers of one with more inputs than columns may have been cut.
-fn core_within(width: u32, inputs: u32, read: Read) -> Result<Core, CoreFault>
+fn parts_within(width: u32, inputs: u32, read: Read) -> Result<CoreParts, CoreFault>
     requires some_width { 0 < width }
     requires few_equations { length read.equations.items < 2 ^ 32 }
     requires few_outputs { length read.outputs.items < 2 ^ 32 }
@@ -85,9 +99,9 @@ fn core_within(width: u32, inputs: u32, read: Read) -> Result<Core, CoreFault>
     if u64::from(inputs) > MAX_COLUMNS {
         return Err(CoreFault::Limit);
     }
-    let core = Core::new(width, inputs, equations, outputs);
-    if core.fits() {
-        Ok(core)
+    let parts = CoreParts::new(width, inputs, equations, outputs);
+    if parts.fits() {
+        Ok(parts)
     } else {
         Err(CoreFault::Limit)
     }

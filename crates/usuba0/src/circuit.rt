@@ -151,8 +151,8 @@ impl Core {
         shown * u64::from(self.width)
     }
 
-    /// The circuit of these parts, which are not tested.
-    pub fn new(width: u32, inputs: u32, equations: Vec<Gate>, outputs: Vec<Reg>) -> Core
+    // The circuit of these parts.
+    pub(crate) fn new(width: u32, inputs: u32, equations: Vec<Gate>, outputs: Vec<Reg>) -> Core
         requires core { IsCore (record { width = width; inputs = inputs; equations = equations.items; outputs = outputs.items }) }
         requires few_equations { length equations.items < 2 ^ 32 }
         requires few_outputs { length outputs.items < 2 ^ 32 }

@@ -1,16 +1,15 @@
 -- What a body says, line by line, as it is read.
-use Rattle.std.proofs.Common.{◌≡◌, ℕ, suc, ◌+◌, Bool, true, false, if◌then◌else◌, List, [], ◌∷◌, ◌++◌, map, Option, None, Some, Result, Ok, Err, refl, sym, ap, ◌∙◌, subst, append_assoc, append-nil, add-one}
+use Rattle.std.proofs.Common.{◌≡◌, ℕ, suc, ◌+◌, true, false, List, [], ◌∷◌, ◌++◌, map, Option, None, Some, Result, Ok, Err, refl, sym, ap, ◌∙◌, subst, append_assoc, append-nil, add-one}
 use Rattle.std.specs.Result.{IsErrAnd}
 use Rattle.std.proofs.lemmas.Bool.{cond-true, cond-false}
 use Rattle.core_text.specs.declared.fault.CoreFault.{CoreFault}
 use Rattle.core_text.specs.declared.fault.CoreFault.TheVariants as fault
 use Rattle.core_text.specs.Forms.{is_outputs}
 use Rattle.core_text.specs.Parts.{kept, kept_gate, kept_body, answer_kept, after_equations, rest_of, IsAnswer, IsMemory}
-use Rattle.core_text.specs.Reading.{Body, with_equation, with_outputs, body_from, equation_line, outputs_line, width_line, inputs_line, with_number, circuit_with, from_inputs, from_width, circuit_of}
-use Rattle.text_lines.specs.Lines.{LinesLeft, first_words, lines_of}
+use Rattle.core_text.specs.Reading.{Body, with_equation, with_outputs, body_from, equation_line, outputs_line}
+use Rattle.text_lines.specs.Lines.{LinesLeft, first_words}
 use Rattle.usuba0.specs.declared.circuit.Gate.{Gate}
 use Rattle.usuba0.specs.declared.circuit.Reg.{Reg}
-use Rattle.usuba0.specs.Circuit.{Circuit}
 
 pub no_ok : {X : Type 0} (x : X) (wrong : CoreFault) → Ok x ≡ Err wrong → ⊥
 no_ok x wrong e = cc

@@ -1,6 +1,6 @@
 -- The core that is made of what was read.
-use Rattle.std.proofs.Common.{◌≡◌, ℕ, suc, ◌+◌, ◌*◌, ◌^◌, ◌<◌, ◌≤◌, Bool, true, false, eqb, ltb, leb, ◌&&◌, List, [], ◌∷◌, ◌++◌, length, map, Option, None, Some, Result, Ok, Err, refl, sym, ap, ◌∙◌, subst, inl, inr, arith, codes, decimal, length-append}
-use Rattle.std.specs.List.{All, list_all, slice_split}
+use Rattle.std.proofs.Common.{◌≡◌, ℕ, suc, ◌+◌, ◌*◌, ◌^◌, ◌<◌, ◌≤◌, true, eqb, ltb, leb, List, [], ◌∷◌, ◌++◌, length, map, Option, None, Some, Result, Ok, Err, refl, sym, ap, ◌∙◌, subst, inl, inr, arith, codes, decimal, length-append}
+use Rattle.std.specs.List.{All, slice_split}
 use Rattle.std.proofs.Math.Nat.{le-mul_of_pos_right}
 use Rattle.std.proofs.lemmas.Bool.{cases_Bool, and_parts, ltb-true, leb-true, lt-ltb, leb-false, cond-false}
 use Rattle.std.proofs.lemmas.List.{length-map}
@@ -9,7 +9,7 @@ use Rattle.std.proofs.lemmas.List.Sums.{count_by-le-length}
 use Rattle.core_text.specs.declared.fault.CoreFault.{CoreFault}
 use Rattle.core_text.specs.declared.fault.CoreFault.TheVariants as fault
 use Rattle.core_text.specs.Forms.{width_form, is_outputs}
-use Rattle.core_text.specs.Parts.{kept, kept_gate, kept_body, answer_kept, rest_of, IsAnswer}
+use Rattle.core_text.specs.Parts.{kept, kept_gate, kept_body, answer_kept, rest_of}
 use Rattle.core_text.specs.Ranges.{is_width, is_within}
 use Rattle.core_text.specs.Reading.{Body, width_line, inputs_line, from_inputs, equation_line, outputs_line, body_from, circuit_with, from_width, circuit_of, core_of, within_limits, IsOrMemory}
 use Rattle.core_text.proofs.BodyLemmas.{no_ok, ok_is, equation_at, outputs_at}

@@ -1,6 +1,6 @@
 -- Bytes that are read as a circuit are its text.
-use Rattle.std.proofs.Common.{◌≡◌, ◌⊎◌, ℕ, suc, ◌+◌, ◌*◌, ◌^◌, ◌<◌, ◌≤◌, Bool, true, false, eqb, ltb, leb, ◌&&◌, if◌then◌else◌, List, [], ◌∷◌, ◌++◌, length, map, Option, None, Some, Result, Ok, Err, refl, sym, ap, ◌∙◌, subst, inl, inr, arith, append_assoc, append-nil, codes, decimal}
-use Rattle.std.specs.List.{All, list_all}
+use Rattle.std.proofs.Common.{◌≡◌, ℕ, suc, ◌+◌, ◌^◌, ◌<◌, ◌≤◌, Bool, true, false, ltb, leb, if◌then◌else◌, List, [], ◌∷◌, ◌++◌, length, Option, None, Some, Result, Ok, Err, refl, sym, ap, ◌∙◌, subst, inl, inr, arith, append_assoc, append-nil, codes, decimal}
+use Rattle.std.specs.List.{All}
 use Rattle.std.proofs.Math.Pow.{pow_mono}
 use Rattle.std.proofs.lemmas.Bool.{cases_Bool, and_parts, ltb-true, leb-true}
 use Rattle.core_text.specs.declared.fault.CoreFault.{CoreFault}
@@ -9,7 +9,7 @@ use Rattle.core_text.specs.Forms.{Equation, width_form, inputs_form, equation_fo
 use Rattle.core_text.specs.Ranges.{is_width, is_inputs, is_next, are_outputs}
 use Rattle.core_text.specs.Reading.{said_in_range, width_line, inputs_line, gate_of, equation_line, outputs_line, Body, with_equation, with_outputs, body_from, circuit_with, with_number, from_inputs, from_width, circuit_of}
 use Rattle.core_text.proofs.BodyLemmas.{no_ok, ok_is, equation_at, outputs_at}
-use Rattle.core_text.proofs.FormLemmas.{equation_words, register_words, number_told, equation_told, outputs_told}
+use Rattle.core_text.proofs.FormLemmas.{equation_words, number_told, equation_told, outputs_told}
 use Rattle.core_text.proofs.WordLemmas.{equation_line_is, outputs_line_is, number_line_is}
 use Rattle.text_lines.specs.Lines.{lines_of}
 use Rattle.text_lines.specs.Words.{line_text}

@@ -1,11 +1,11 @@
 -- What a line says, from what its parts say.
-use Rattle.std.proofs.Common.{◌≡◌, ℕ, Bool, true, false, eqb, not, ◌&&◌, if◌then◌else◌, List, [], ◌∷◌, Option, None, Some, Result, Ok, Err, refl, sym, ap, ◌∙◌, inl, inr}
+use Rattle.std.proofs.Common.{◌≡◌, ℕ, true, false, eqb, if◌then◌else◌, List, Option, None, Some, Result, Ok, Err, refl, sym, ap, ◌∙◌, inl, inr}
 use Rattle.std.specs.Result.{IsErrAnd}
 use Rattle.std.proofs.lemmas.Bool.{cases_Bool, cond-true, eq-eqb, ne_eqb, eqb-true, eqb-false}
 use Rattle.core_text.specs.declared.fault.CoreFault.{CoreFault}
 use Rattle.core_text.specs.declared.fault.CoreFault.TheVariants as fault
 use Rattle.core_text.specs.Forms.{is_register, register_of, single_gate, constant_gate, pair_gate, numbered_gate, one_form, two_form, gate_form, with_gate, equation_form}
-use Rattle.core_text.specs.Parts.{kept, kept_gate, answer_kept}
+use Rattle.core_text.specs.Parts.{kept_gate, answer_kept}
 use Rattle.core_text.specs.Ranges.{is_gate, is_next}
 use Rattle.core_text.specs.Reading.{said_in_range, gate_of, equation_line}
 use Rattle.core_text.proofs.BodyLemmas.{failed, no_ok}

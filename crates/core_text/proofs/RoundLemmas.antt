@@ -1,5 +1,5 @@
 -- What is written of a core within the limits is read as the same core.
-use Rattle.std.proofs.Common.{◌≡◌, ℕ, suc, ◌+◌, ◌*◌, ◌^◌, ◌<◌, ◌≤◌, Bool, true, false, eqb, ltb, leb, ◌&&◌, List, [], ◌∷◌, ◌++◌, length, map, Option, None, Some, Result, Ok, Err, refl, sym, ap, ◌∙◌, subst, arith, append_assoc, append-nil, codes, decimal}
+use Rattle.std.proofs.Common.{◌≡◌, ℕ, suc, ◌+◌, ◌*◌, ◌^◌, ◌<◌, ◌≤◌, Bool, true, eqb, ltb, leb, ◌&&◌, List, [], ◌∷◌, ◌++◌, length, map, Option, None, Some, Result, Ok, Err, refl, sym, ap, ◌∙◌, arith, append_assoc, append-nil, codes, decimal}
 use Rattle.std.specs.List.{All, list_all}
 use Rattle.std.specs.Str.{bytes_eq}
 use Rattle.std.proofs.Math.Nat.{le-mul_of_pos_right}
@@ -15,15 +15,14 @@ use Rattle.core_text.proofs.FormLemmas.{gate_words, equation_words, register_wor
 use Rattle.core_text.proofs.LawLemmas.{head_parts}
 use Rattle.core_text.proofs.WordLemmas.{equation_line_is, outputs_line_is, number_line_is, register_written, register_back, register_plain, gate_back}
 use Rattle.text_lines.specs.Lines.{lines_of}
-use Rattle.text_lines.specs.Numbers.{is_number, value_of}
 use Rattle.text_lines.specs.Words.{line_text, is_plain_word, are_plain_words}
 use Rattle.text_lines.proofs.WrittenLemmas.{lines_of_line, value_of_decimal, is_number_decimal, is_plain_decimal}
 use Rattle.usuba0.specs.declared.circuit.Gate.{Gate}
 use Rattle.usuba0.specs.declared.circuit.Gate.TheVariants as gate
 use Rattle.usuba0.specs.declared.circuit.Reg.{Reg}
 use Rattle.usuba0.specs.declared.limit.TheConstants.{MAX_WEIGHT, MAX_COLUMNS}
-use Rattle.usuba0.specs.Circuit.{Circuit, IsCore, IsEquation, AreEquations, IsSmall, HasFewColumns, weight, columns, registers, products_of, refreshes_of}
-use Rattle.usuba0.specs.CoreText.{register_text, equation_text, equations_text, outputs_text, head_text, core_text}
+use Rattle.usuba0.specs.Circuit.{Circuit, IsCore, IsEquation, AreEquations, IsSmall, HasFewColumns, weight, columns, products_of, refreshes_of}
+use Rattle.usuba0.specs.CoreText.{register_text, equation_text, equations_text, outputs_text, core_text}
 use Rattle.usuba0.proofs.TextLemmas.{core_text_parts}
 
 said_back : {X : Type 0} (k : ℕ) (said : Option X) (test : X → Bool) (x : X) → said ≡ Some x → test x ≡ true → said_in_range k said test ≡ Ok x
@@ -104,7 +103,6 @@ outputs_form_back n (r ∷ rs) small some h =
     cond-true (bytes_eq (codes "outputs") (codes "outputs") && list_all is_register words) (Some (map register_of words)) None
     (and_from (bytes_eq (codes "outputs") (codes "outputs")) (list_all is_register words) refl (registers_written n (r ∷ rs) small h))
     ∙ ap (λ (l : List Reg). Some l) (registers_back n (r ∷ rs) small h)
-
 
 -- the outputs
 last_back : (w n k : ℕ) (rs : List Reg) → n < 2 ^ 64 → 0 < length rs → All (λ r. r.0 < n) rs

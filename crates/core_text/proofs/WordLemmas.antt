@@ -1,13 +1,11 @@
 -- The lines of a core are those of its words, and its words are of the forms.
-use Rattle.std.proofs.Common.{◌≡◌, ℕ, suc, ◌+◌, ◌^◌, ◌<◌, ◌≤◌, Bool, true, false, eqb, ltb, leb, ◌&&◌, not, List, [], ◌∷◌, ◌++◌, length, map, flat_map, Option, None, Some, refl, sym, ap, ◌∙◌, arith, append_assoc, append-nil, codes, decimal}
+use Rattle.std.proofs.Common.{◌≡◌, ℕ, ◌^◌, ◌<◌, ◌≤◌, true, false, eqb, leb, List, [], ◌∷◌, ◌++◌, Some, refl, sym, ap, ◌∙◌, arith, append_assoc, append-nil, codes, decimal}
 use Rattle.std.specs.Char.{is_ascii_digit}
-use Rattle.std.specs.List.{All, list_all}
-use Rattle.std.proofs.lemmas.Bool.{and_parts, and_from, lt-ltb, leb-true, eq-eqb, ne_eqb}
-use Rattle.core_text.specs.Forms.{is_register, register_of, number_form, gate_form, Equation, equation_form, is_outputs, outputs_form}
-use Rattle.core_text.specs.Ranges.{is_earlier, is_gate, is_next, are_outputs}
+use Rattle.std.specs.List.{list_all}
+use Rattle.std.proofs.lemmas.Bool.{and_parts, leb-true, ne_eqb}
+use Rattle.core_text.specs.Forms.{is_register, register_of, gate_form}
 use Rattle.core_text.proofs.FormLemmas.{gate_words, equation_words, register_words}
-use Rattle.text_lines.specs.Numbers.{is_number, value_of}
-use Rattle.text_lines.specs.Words.{spaced, line_text, is_plain_word, are_plain_words}
+use Rattle.text_lines.specs.Words.{spaced, line_text, is_plain_word}
 use Rattle.text_lines.proofs.WrittenLemmas.{decimal_digits, value_of_decimal, is_number_decimal, is_plain_decimal}
 use Rattle.usuba0.specs.declared.circuit.Gate.{Gate}
 use Rattle.usuba0.specs.declared.circuit.Gate.TheVariants as gate

@@ -55,12 +55,7 @@ impl CoreParts {
         self.outputs.as_slice()
     }
 
-    pub(crate) fn new(
-        width: u32,
-        inputs: u32,
-        equations: Vec<Gate>,
-        outputs: Vec<Reg>,
-    ) -> CoreParts
+    pub(crate) fn new(width: u32, inputs: u32, equations: Vec<Gate>, outputs: Vec<Reg>) -> CoreParts
         requires core { IsCore (record { width = width; inputs = inputs; equations = equations.items; outputs = outputs.items }) }
         requires few_equations { length equations.items < 2 ^ 32 }
         requires few_outputs { length outputs.items < 2 ^ 32 }

@@ -7,8 +7,8 @@ ghost use Rattle.usuba0.specs.Circuit.{Circuit, IsCore, IsSmall, HasFewColumns};
 ghost use Rattle.usuba0.specs.CoreText.{core_text};
 
 use crate::fault::CoreFault;
-use crate::parts::CoreParts;
 use crate::line::{equation_line, inputs_line, is_outputs, outputs_line, width_line};
+use crate::parts::CoreParts;
 use std::alloc::Global;
 use text_lines::{Lines, Words};
 use usuba0::{Gate, MAX_COLUMNS, Reg};

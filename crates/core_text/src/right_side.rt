@@ -32,13 +32,7 @@ pub(crate) fn right_side(
     two_operands(width, next, line, name, first, second)
 }
 
-fn one_operand(
-    width: u32,
-    next: u64,
-    line: u64,
-    name: &[u8],
-    a: &[u8],
-) -> Result<Gate, CoreFault>
+fn one_operand(width: u32, next: u64, line: u64, name: &[u8], a: &[u8]) -> Result<Gate, CoreFault>
     requires { width ≤ 64 }
     ensures { result ≡ answer_kept kept_gate (said_in_range line (forms.one_form name.now a.now) (is_gate width next)) }
 {

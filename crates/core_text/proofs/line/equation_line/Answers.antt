@@ -1,4 +1,4 @@
-use Rattle.std.proofs.Common.{◌≡◌, Ok, Err, true, false, eqb, sym, ◌∙◌, arith, rules}
+use Rattle.std.proofs.Common.{◌≡◌, true, false, eqb, sym, ◌∙◌, arith, rules}
 use Rattle.core_text.specs.Forms.{equation_form, with_gate, register_of, gate_form}
 use Rattle.core_text.proofs.LineLemmas.{wrong_line, other_line, right_line, handed_on}
 use Rattle.core_text.proofs.line.equation_line.Goals as goal

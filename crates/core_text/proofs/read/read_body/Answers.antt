@@ -1,4 +1,4 @@
-use Rattle.std.proofs.Common.{◌≡◌, ◌+◌, ◌≤◌, ◌∷◌, [], ◌++◌, List, Option, ℕ, length, Some, Ok, Err, true, false, ap, sym, ◌∙◌, arith, rules}
+use Rattle.std.proofs.Common.{◌≡◌, ◌+◌, ◌∷◌, [], ◌++◌, List, ℕ, length, Some, Err, true, false, ap, sym, ◌∙◌, arith}
 use Rattle.core_text.specs.declared.fault.CoreFault.{CoreFault}
 use Rattle.core_text.specs.declared.fault.CoreFault.TheVariants as fault
 use Rattle.core_text.specs.Forms.{is_outputs}

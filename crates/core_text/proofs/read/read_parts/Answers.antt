@@ -1,4 +1,4 @@
-use Rattle.std.proofs.Common.{◌≡◌, length, ap, sym, ◌∙◌, arith}
+use Rattle.std.proofs.Common.{◌≡◌, length, ap, ◌∙◌, arith}
 use Rattle.core_text.proofs.CoreLemmas.{made, lines_few, or_memory}
 use Rattle.core_text.specs.Reading.{core_of}
 use Rattle.text_lines.specs.Lines.{LinesLeft, lines_of}

@@ -1,4 +1,4 @@
-use Rattle.std.proofs.Common.{◌≡◌, List, ℕ, [], ◌∷◌, ap, sym, ◌∙◌, arith, rules}
+use Rattle.std.proofs.Common.{◌≡◌, List, ℕ, [], ◌∷◌, ap, sym, ◌∙◌, rules}
 use Rattle.core_text.specs.Forms.{gate_form}
 use Rattle.core_text.specs.Parts.{kept_gate, answer_kept}
 use Rattle.core_text.specs.Ranges.{is_gate}

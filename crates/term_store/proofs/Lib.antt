@@ -1,2 +1,3 @@
 mod Extended
 mod PlanCores
+mod SourceCores

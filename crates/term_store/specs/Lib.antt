@@ -1,2 +1,3 @@
 pub mod TermStore
 pub mod PlanCore
+pub mod CoreLaw

@@ -12,5 +12,5 @@ mod Choices
 mod Taking
 mod Fresh
 mod NodePlans
-mod FilePlans
+pub mod FilePlans
 mod Fitting

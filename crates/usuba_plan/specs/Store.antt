@@ -3,8 +3,8 @@ use Rattle.std.specs.Prelude.{◌≡◌, ℕ, ◌+◌, ◌≤◌, List, map, Opt
 use Rattle.usuba_code.specs.CodeLaw.{Each}
 use Rattle.usuba_model.specs.Rounds.{Operators}
 
--- the width of the program, how many inputs it has, what operators make of elements, which handles are held, what element
--- each of these stands for, and how many more elements may be made
+-- the width of the program, how many inputs it has, what operators make of elements, which handles are held, what
+-- element each of these stands for, and how many more elements may be made
 pub record Store (H V : Type 0) : Type 1 where
   pub width : ℕ
   pub inputs : ℕ
@@ -27,8 +27,8 @@ pub record Gives {H V : Type 0} (store : Store H V) (handles : List H) (elements
   pub held : Each store.holds handles
   pub means : elements ≡ Some (meanings store handles)
 
--- width, inputs and operators are as before, the handles that were held still are and stand for the same, and at most so
--- many elements were made
+-- width, inputs and operators are as before, the handles that were held still are and stand for the same, and at most
+-- so many elements were made
 pub record Keeps {H V : Type 0} (most : ℕ) (old new : Store H V) : Type 0 where
   pub width : new.width ≡ old.width
   pub inputs : new.inputs ≡ old.inputs

@@ -5,3 +5,4 @@ mod Reaching
 mod Standing
 mod Declaring
 mod Deciding
+mod Fewness

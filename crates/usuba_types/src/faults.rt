@@ -1,4 +1,4 @@
-ghost use Rattle.std.specs.Prelude.{◌≡◌, ◌≤◌, IfOk};
+ghost use Rattle.std.specs.Prelude.{◌≡◌, ◌<◌, ◌≤◌, ◌^◌, length, IfOk};
 ghost use Rattle.usuba_model.specs.Faults.{either, first_of};
 ghost use Rattle.usuba_model.specs.Names.{declared_in};
 ghost use Rattle.usuba_model.specs.Shapes.{all_elements};
@@ -66,20 +66,18 @@ fn keep_unassigned(
     }
 }
 
-// The first instance that never becomes ready. A table of 2^32 instances does not fit memory.
+// The first instance that never becomes ready.
 fn first_cyclic(
     alloc: Global,
     table: &Table,
     inputs: u32,
     cells: u32,
 ) -> Result<Option<Fault>, AllocError>
+    requires instances { length table.now.done < 2 ^ 32 }
     requires inputs { inputs ≤ cells }
     requires cells { AreBelow cells table.now.done }
     ensures { IfOk result (λ fault. fault ≡ first_of FaultKind.Cyclic (cyclic_numbered inputs table.now.done)) }
 {
-    if table.len() > 4_294_967_295 {
-        return Err(AllocError);
-    }
     match order_of(alloc, table, inputs, cells)? {
         Order::Ready(_) => Ok(None),
         Order::Stuck(fault) => Ok(Some(fault)),
@@ -93,6 +91,7 @@ fn keep_cyclic(
     inputs: u32,
     cells: u32,
 ) -> Result<Option<Fault>, AllocError>
+    requires instances { length table.now.done < 2 ^ 32 }
     requires inputs { inputs ≤ cells }
     requires cells { AreBelow cells table.now.done }
     ensures { IfOk result (λ fault. fault ≡ either kept (first_of FaultKind.Cyclic (cyclic_numbered inputs table.now.done))) }
@@ -110,6 +109,7 @@ fn keep_of_node(
     table: &Table,
     node: &Node,
 ) -> Result<FirstFaults, AllocError>
+    requires instances { length table.now.done < 2 ^ 32 }
     requires few { all_elements (declarations node.now) ≤ most_operations }
     requires cells { AreBelow (all_elements (declarations node.now)) table.now.done }
     ensures { IfOk result (λ after. after ≡ kept_numbered kept node.now table.now.done) }
@@ -133,6 +133,7 @@ pub fn keep_first(
     table: &Table,
     definition: &Def,
 ) -> Result<FirstFaults, AllocError>
+    requires instances { length table.now.done < 2 ^ 32 }
     requires few { all_elements (declared_in definition.now) ≤ most_operations }
     requires cells { AreBelow (all_elements (declared_in definition.now)) table.now.done }
     ensures { IfOk result (λ after. after ≡ kept_after_numbered kept definition.now table.now.done) }

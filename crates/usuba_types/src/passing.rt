@@ -1,4 +1,4 @@
-ghost use Rattle.std.specs.Prelude.{◌≡◌, ℕ, ◌<◌, ◌≤◌, ◌∷◌, ◌++◌, [], length, None, IfOk, OnOk};
+ghost use Rattle.std.specs.Prelude.{◌≡◌, ℕ, ◌<◌, ◌≤◌, ◌∷◌, ◌++◌, [], length, None, IfOk, OnOk, ◌^◌};
 ghost use Rattle.usuba_model.specs.Faults.{either, first_of};
 ghost use Rattle.usuba_model.specs.Judging.{name_at as name_at_number, later_fault as later_fault_of};
 ghost use Rattle.usuba_model.specs.Entries.{name_place};
@@ -61,6 +61,7 @@ fn keep<'a>(
     count: u32,
     table: &Table,
 ) -> Result<(), AllocError>
+    requires instances { length table.now.done < 2 ^ 32 }
     requires few { all_elements (declared_in definition.now) ≤ most_operations }
     requires table { table.now.done ≡ coded_definition pass.old.definitions definition.now }
     ensures definitions { OnOk result (pass.new.definitions ≡ signature definition.now ∷ pass.old.definitions) }

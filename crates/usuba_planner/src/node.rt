@@ -1,8 +1,8 @@
-ghost use Rattle.std.specs.Prelude.{◌≡◌, ◌≤◌, None, Some, true, IfOk};
+ghost use Rattle.std.specs.Prelude.{◌≡◌, ◌≤◌, None, Some, true, length, IfOk};
 ghost use Rattle.usuba_trees.specs.declared.Def.TheVariants as def;
 ghost use Rattle.usuba_model.specs.declared.fault.FaultKind.TheVariants.{Cyclic};
 ghost use Rattle.usuba_model.specs.Faults.{first_of};
-ghost use Rattle.usuba_model.specs.Walk.{definition_steps, walk_fault};
+ghost use Rattle.usuba_model.specs.Walk.{most_operations, definition_steps, walk_fault};
 ghost use Rattle.ready_order.specs.Numbered.{AreBelow, cyclic_numbered};
 ghost use Rattle.ready_order.specs.Order.{IsReadyOrder};
 ghost use Rattle.usuba_walk.specs.Walking.{coded_definition};
@@ -33,16 +33,14 @@ fn instances(
     }
 }
 
-// An order of instances all of which become ready. A table of 2^32 instances does not fit memory.
+// An order of instances all of which become ready.
 fn ready(alloc: Global, table: &Table, inputs: u32, cells: u32) -> Result<Vec<u32>, AllocError>
+    requires few { length table.now.done ≤ most_operations }
     requires inputs { inputs ≤ cells }
     requires cells { AreBelow cells table.now.done }
     requires ready { first_of Cyclic (cyclic_numbered inputs table.now.done) ≡ None }
     ensures { IfOk result (λ order. IsReadyOrder inputs table.now.done order.items) }
 {
-    if table.len() > 4_294_967_295 {
-        return Err(AllocError);
-    }
     match order_of(alloc, table, inputs, cells)? {
         Order::Ready(order) => Ok(order),
         Order::Stuck(_) => unreachable!(),

@@ -9,3 +9,4 @@ pub mod Ranges
 pub mod Equations
 pub mod ItemWalks
 pub mod Whole
+pub mod Counting

@@ -1,4 +1,4 @@
-use Rattle.std.proofs.Common.{◌≡◌, ◌+◌, ◌≤◌, ℕ, List, sym, ap, ◌∙◌, subst, arith}
+use Rattle.std.proofs.Common.{◌≡◌, ◌+◌, ◌≤◌, ℕ, List, length, sym, ap, ◌∙◌, subst, arith}
 use Rattle.usuba_trees.specs.declared.Decl.{Decl}
 use Rattle.usuba_trees.specs.declared.Def.{Def}
 use Rattle.usuba_model.specs.Names.{declared_in}
@@ -9,6 +9,7 @@ use Rattle.usuba_code.specs.Code.{Coded, coded_node}
 use Rattle.ready_order.specs.Numbered.{AreBelow}
 use Rattle.ready_order.proofs.Carrying.{numbered_findings}
 use Rattle.usuba_walk.specs.Walking.{coded_definition}
+use Rattle.usuba_walk.proofs.Counting.{few_instances}
 use Rattle.usuba_planner.proofs.Declaring.{node_elements, definition_few}
 use Rattle.usuba_planner.proofs.node.plan_node.Goals as goal
 
@@ -56,6 +57,11 @@ overflow_add-cells-2 c =
     let outputs : c.count-outputs.result ≡ all_elements node.outputs = c.count-outputs.ensures ∙ ap all_elements c.as_slice-2.ensures in
     let locals : c.count.result ≡ all_elements node.locals = c.count.ensures ∙ ap all_elements c.as_slice-3.ensures in
     omega (arith, inputs, outputs, locals, node_elements node, few)
+
+pub ready-requires-clause-few : goal.ready-requires-clause-few
+ready-requires-clause-few c =
+    subst (λ (done : List Coded). length done ≤ most_operations) (sym c.in_ok-table.ensures)
+    (few_instances c.args.width c.args.earlier.now c.args.definition.now c.requires.sound.walks)
 
 pub ready-requires-clause-cells : goal.ready-requires-clause-cells
 ready-requires-clause-cells c =

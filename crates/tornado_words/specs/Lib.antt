@@ -1,0 +1,6 @@
+pub mod Answers
+pub mod Arguments
+pub mod Laws
+pub mod Numbers
+pub mod Orders
+pub mod Values

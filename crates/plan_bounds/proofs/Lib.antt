@@ -1,0 +1,4 @@
+mod Sums
+mod Counting
+mod Rooms
+mod FileRooms

@@ -1,0 +1,6 @@
+//! How many elements the plans of a judged file make at most, and that its entry can be run.
+#![tactic(auto)]
+
+mod laws;
+
+pub use laws::plans_have_room;

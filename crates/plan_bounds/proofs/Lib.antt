@@ -2,3 +2,4 @@ mod Sums
 mod Counting
 mod Rooms
 mod FileRooms
+pub mod Entries

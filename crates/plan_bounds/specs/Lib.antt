@@ -1,1 +1,2 @@
 pub mod RoomLaw
+pub mod RunLaw

@@ -13,4 +13,4 @@ mod Taking
 mod Fresh
 mod NodePlans
 pub mod FilePlans
-mod Fitting
+pub mod Fitting

@@ -1,0 +1,6 @@
+mod Words
+mod Tokens
+mod Passing
+mod Declaring
+pub mod Files
+pub mod Entry

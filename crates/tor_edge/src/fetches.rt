@@ -70,7 +70,11 @@ impl Fetches {
 
 /// Adds the name to the names, which are a list from the first of them on: an object that fetches is made without
 /// an allocator.
-fn add_name(alloc: Global, names: &mut Option<List<Name>>, name: Name) -> Result<(), AllocError>
+pub(crate) fn add_name(
+    alloc: Global,
+    names: &mut Option<List<Name>>,
+    name: Name,
+) -> Result<(), AllocError>
     ensures named { OnOk result (unwrap_or names.new [] ≡ unwrap_or names.old [] ++ name ∷ []) }
     ensures not_named { OnErr result (unwrap_or names.new [] ≡ unwrap_or names.old []) }
 {

@@ -1,7 +1,6 @@
 //! What every crate of the compiler shares: lists, boxes, names and places, and the traits of the outside.
 #![tactic(auto)]
 
-mod draft;
 mod fetches;
 mod files;
 mod mem_files;
@@ -12,8 +11,8 @@ mod os_sink;
 mod place;
 mod put;
 mod sink;
+mod steady;
 
-pub use draft::Draft;
 pub use files::{FetchFault, Files, MAX_FILE_BYTES, Reason, Refusal, limits};
 pub use mem_files::{Held, MemFiles};
 pub use mem_sink::{MemSink, Trip};
@@ -24,3 +23,4 @@ pub use place::Place;
 pub use put::{Piece, put_bytes, put_number, put_pieces, put_text};
 pub use sink::{PutFault, Sink};
 pub use sqlite_items::{Boxed, Items as List};
+pub use steady::{SteadyFiles, SteadySink};

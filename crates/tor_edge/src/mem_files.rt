@@ -125,7 +125,7 @@ fn answer(
     Ok(List::from_slice(alloc, bytes)?)
 }
 
-fn find_file<'a>(held: &'a [Held], name: &str) -> Option<&'a [u8]>
+pub(crate) fn find_file<'a>(held: &'a [Held], name: &str) -> Option<&'a [u8]>
     ensures { option_copied result ≡ file_of held.now name.now }
 {
     let file = held.iter().find(|file| file.name.as_str() == name)?;

@@ -151,8 +151,8 @@ impl Core {
         shown * u64::from(self.width)
     }
 
-    // The circuit of these parts.
-    pub(crate) fn new(width: u32, inputs: u32, equations: Vec<Gate>, outputs: Vec<Reg>) -> Core
+    /// The circuit of these parts.
+    pub fn new(width: u32, inputs: u32, equations: Vec<Gate>, outputs: Vec<Reg>) -> Core
         requires core { IsCore (record { width = width; inputs = inputs; equations = equations.items; outputs = outputs.items }) }
         requires few_equations { length equations.items < 2 ^ 32 }
         requires few_outputs { length outputs.items < 2 ^ 32 }
@@ -170,16 +170,16 @@ impl Core {
         }
     }
 
-    // The equations, in order.
-    pub(crate) fn equation_slice(&self) -> &[Gate]
+    /// The equations, in order.
+    pub fn equation_slice(&self) -> &[Gate]
         ensures gates { result.now ≡ self.now.equations }
         ensures core { IsCore self.now }
     {
         self.equations.as_slice()
     }
 
-    // The outputs, in order.
-    pub(crate) fn output_slice(&self) -> &[Reg]
+    /// The outputs, in order.
+    pub fn output_slice(&self) -> &[Reg]
         ensures registers { result.now ≡ self.now.outputs }
         ensures core { IsCore self.now }
     {

@@ -15,4 +15,4 @@ pub use finish::CloseFault;
 pub use limit::{MAX_COLUMNS, MAX_TERMS, MAX_WEIGHT, REFRESH_NUMBERS, limits};
 pub use run::run_plain;
 pub use text::write_core;
-pub use words::word_bits;
+pub use words::{all_ones, constant_word, rotate_left, shift_left, shift_right, word_bits};

@@ -11,7 +11,7 @@ pub fn word_bits(width: u32) -> u32
     if width == 1 { 32 } else { width }
 }
 
-// The word of `bits` ones.
+/// The word of `bits` ones.
 pub fn all_ones(bits: u32) -> u64
     requires some { 0 < bits }
     requires fits { bits ≤ 64 }
@@ -20,7 +20,7 @@ pub fn all_ones(bits: u32) -> u64
     u64::MAX >> (64 - bits)
 }
 
-// What a constant stands for in words of `bits` bits.
+/// What a constant of a program of this width stands for in words of `bits` bits.
 pub fn constant_word(width: u32, bits: u32, value: u64) -> u64
     requires some { 0 < bits }
     requires fits { bits ≤ 64 }
@@ -33,6 +33,7 @@ pub fn constant_word(width: u32, bits: u32, value: u64) -> u64
     }
 }
 
+/// A word of `bits` bits shifted left; what leaves them is lost.
 pub fn shift_left(bits: u32, k: u32, word: u64) -> u64
     requires below { k < bits }
     requires fits { bits ≤ 64 }
@@ -41,6 +42,7 @@ pub fn shift_left(bits: u32, k: u32, word: u64) -> u64
     (word << k) & all_ones(bits)
 }
 
+/// A word shifted right.
 pub fn shift_right(k: u32, word: u64) -> u64
     requires { k < 64 }
     ensures { result ≡ shifted_right k word }
@@ -48,6 +50,7 @@ pub fn shift_right(k: u32, word: u64) -> u64
     word >> k
 }
 
+/// A word of `bits` bits rotated left inside them.
 pub fn rotate_left(bits: u32, k: u32, word: u64) -> u64
     requires some { 0 < k }
     requires below { k < bits }

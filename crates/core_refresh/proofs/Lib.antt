@@ -1,0 +1,4 @@
+pub mod Numbering
+pub mod Copies
+pub mod Sizes
+pub mod Running

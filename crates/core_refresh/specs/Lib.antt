@@ -1,0 +1,3 @@
+pub mod RefreshedCore
+pub mod RefreshedLaws
+pub mod State

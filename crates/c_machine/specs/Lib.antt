@@ -1,0 +1,4 @@
+pub mod Scope
+pub mod Machine
+pub mod Run
+pub mod State

@@ -1,0 +1,3 @@
+-- Scopes and memory of the code as the machine sees them. No public clause needs these files but through `run_c`.
+pub mod Scopes
+pub mod Answers

@@ -23,8 +23,8 @@ parameter_name (parameter.Word name) = name
 abbrev pub row_from : ℕ → ℕ → ℕ → Option Meaning
 row_from start rows n = if nat_lt n rows then Some (row (start + n)) else None
 
--- what an argument stands for: the rows of `out` come first in memory, then those of `in`, then those of `v`; a row past the
--- last of its array is none
+-- what an argument stands for: the rows of `out` come first in memory, then those of `in`, then those of `v`; a row
+-- past the last of its array is none
 abbrev pub argument_meaning : CFile → CArg → Option Meaning
 argument_meaning file (argument.Out n) = row_from 0 file.outputs n
 argument_meaning file (argument.Input n) = row_from file.outputs file.inputs n
@@ -37,7 +37,8 @@ bound_first name None scope = None
 bound_first name (Some meant) None = None
 bound_first name (Some meant) (Some scope) = Some (record { name = name; meaning = meant } ∷ scope)
 
--- the parameters of a gadget with what the arguments of a call stand for, where no argument is a row past the last of its array
+-- the parameters of a gadget with what the arguments of a call stand for, where no argument is a row past the last of its
+-- array
 abbrev pub bound : CFile → List CParam → List CArg → Option (List Binding)
 bound file [] arguments = Some []
 bound file (p ∷ parameters) [] = Some []
@@ -110,7 +111,8 @@ answer outputs (Ok memory) = Ok (words_of_rows (take outputs memory))
 
 -- the run of a file on d shares, with the shares of its inputs in order and a list of random words
 abbrev pub machine_run : ℕ → CFile → List ℕ → List ℕ → Result (List ℕ) RunFault
-machine_run d file inputs words = answer file.outputs (calls_done d file 0 file.calls (start_memory d file inputs) words)
+machine_run d file inputs words =
+    answer file.outputs (calls_done d file 0 file.calls (start_memory d file inputs) words)
 
 -- a refused run has met this; want of memory has no cause
 abbrev pub IsRunFault : Result (List ℕ) RunFault → RunFault → Type 0

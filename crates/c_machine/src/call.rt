@@ -87,7 +87,8 @@ pub fn do_call<'f>(
     size: Size,
 ) -> Result<(), Stop>
     requires { size.bits ≡ file.now.reg_bits }
-    ensures { IsOutcome (run.called size.shares file.now call.now (state_of machine.old).memory (state_of machine.old).stream)
+    ensures { IsOutcome
+        (run.called size.shares file.now call.now (state_of machine.old).memory (state_of machine.old).stream)
         result (state_of machine.new) }
 {
     machine.names.truncate(0);

@@ -51,7 +51,8 @@ pub fn evaluate(
     rows: &[List<u64>],
     stream: &mut Stream<'_>,
 ) -> Result<u64, Trap>
-    ensures { IsReading (machine.evaluated expression.now (scope_of names.now) rows.now stream.old.words.now) result stream.new.words.now }
+    ensures { IsReading (machine.evaluated expression.now (scope_of names.now) rows.now stream.old.words.now)
+        result stream.new.words.now }
 {
     match expression {
         CExpr::Cell { array, index } => {

@@ -14,7 +14,8 @@ pub fn word_at(rows: &[List<u64>], row: Option<usize>, index: u64) -> Option<u64
 
 // Writes word `index` of a row and answers true, where there is such a word.
 pub fn write_word(rows: &mut Vec<List<u64>>, row: Option<usize>, index: u64, value: u64) -> bool
-    ensures written { machine.with_word (vec_items rows.old) row index value ≡ if result then Some (vec_items rows.new) else None }
+    ensures written { machine.with_word (vec_items rows.old) row index value
+        ≡ if result then Some (vec_items rows.new) else None }
     ensures kept { IsFalse result → vec_items rows.new ≡ vec_items rows.old }
 {
     let Some(row) = row else {

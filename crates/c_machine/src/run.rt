@@ -79,7 +79,8 @@ fn fault_at(call: u64, stop: Stop) -> RunFault
 // Does all calls of a file.
 fn do_calls<'f>(machine: &mut Machine<'f, '_>, file: &'f CFile, size: Size) -> Result<(), RunFault>
     requires { size.bits ≡ file.now.reg_bits }
-    ensures { IsEnding (calls_done size.shares file.now 0 file.now.calls (state_of machine.old).memory (state_of machine.old).stream)
+    ensures { IsEnding
+        (calls_done size.shares file.now 0 file.now.calls (state_of machine.old).memory (state_of machine.old).stream)
         result (state_of machine.new).memory }
 {
     let calls = file.calls.as_slice();
@@ -102,11 +103,11 @@ fn words_of(alloc: Global, rows: &[List<u64>], count: u32) -> Result<List<u64>, 
     Ok(List::from_vec(words))
 }
 
-/// Runs a file on so many shares: the shares of input 0, then those of input 1 and so on, and the random words. The answer has the
-/// shares of the outputs in the same way.
+/// Runs a file on so many shares: the shares of input 0, then those of input 1 and so on, and the random words. The answer
+/// has the shares of the outputs in the same way.
 ///
-/// A number that is no row of its array, or no place in a row, a shift by 64 or more, and a draw that finds no word stop the
-/// run; the first that it meets is answered.
+/// A number that is no row of its array, or no place in a row, a shift by 64 or more, and a draw that finds no word stop
+/// the run; the first that it meets is answered.
 pub fn run_c(
     alloc: Global,
     file: &CFile,

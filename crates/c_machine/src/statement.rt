@@ -42,7 +42,9 @@ fn cut(word: u64, bits: u32) -> u64
 impl<'a> Machine<'a, '_> {
     // The word of an expression.
     fn compute(&mut self, expression: &CExpr) -> Result<u64, Trap>
-        ensures read { IsReading (model.evaluated expression.now (state_of self.old).scope (state_of self.old).memory (state_of self.old).stream)
+        ensures read { IsReading
+            (model.evaluated expression.now (state_of self.old).scope (state_of self.old).memory
+            (state_of self.old).stream)
             result (state_of self.new).stream }
         ensures scope_stays { (state_of self.new).scope ≡ (state_of self.old).scope }
         ensures memory_stays { (state_of self.new).memory ≡ (state_of self.old).memory }
@@ -64,8 +66,10 @@ impl<'a> Machine<'a, '_> {
 
     // Writes a word of an array.
     fn store(&mut self, array: &Name, index: &CIndex, word: u64) -> Result<(), Stop>
-        ensures { IsOutcome (model.stored (state_of self.old) (state_of self.old).stream (model.with_word (state_of self.old).memory
-            (scope.row_of (scope.meant_by (state_of self.old).scope array.now)) (scope.index_value (state_of self.old).scope index.now) word))
+        ensures { IsOutcome
+            (model.stored (state_of self.old) (state_of self.old).stream (model.with_word (state_of self.old).memory
+            (scope.row_of (scope.meant_by (state_of self.old).scope array.now))
+            (scope.index_value (state_of self.old).scope index.now) word))
             result (state_of self.new) }
     {
         let names = self.names.as_slice();
@@ -88,7 +92,8 @@ fn assign(
     bits: u32,
 ) -> Result<(), Stop>
     ensures { IsOutcome (model.assigned bits (state_of machine.old) array.now index.now
-        (model.evaluated value.now (state_of machine.old).scope (state_of machine.old).memory (state_of machine.old).stream))
+        (model.evaluated value.now (state_of machine.old).scope (state_of machine.old).memory
+        (state_of machine.old).stream))
         result (state_of machine.new) }
 {
     let computed = machine.compute(value)?;
@@ -98,7 +103,8 @@ fn assign(
 // A declaration of a word.
 fn declare<'a>(machine: &mut Machine<'a, '_>, name: &'a Name, value: &CExpr) -> Result<(), Stop>
     ensures { IsOutcome (model.declared (state_of machine.old) name.now
-        (model.evaluated value.now (state_of machine.old).scope (state_of machine.old).memory (state_of machine.old).stream))
+        (model.evaluated value.now (state_of machine.old).scope (state_of machine.old).memory
+        (state_of machine.old).stream))
         result (state_of machine.new) }
 {
     let word = machine.compute(value)?;
@@ -113,8 +119,8 @@ pub fn execute_all<'a>(
     statements: &'a [CStmt],
     size: Size,
 ) -> Result<(), Stop>
-    ensures { IsOutcome (model.in_turn (map (model.executed size.shares size.bits) statements.now) (state_of machine.old))
-        result (state_of machine.new) }
+    ensures { IsOutcome
+        (model.in_turn (map (model.executed size.shares size.bits) statements.now) (state_of machine.old)) result (state_of machine.new) }
 {
     for statement in statements {
         execute(machine, statement, size)?;
@@ -124,7 +130,8 @@ pub fn execute_all<'a>(
 
 #[cycle(statements)]
 fn execute<'a>(machine: &mut Machine<'a, '_>, statement: &'a CStmt, size: Size) -> Result<(), Stop>
-    ensures { IsOutcome (model.executed size.shares size.bits statement.now (state_of machine.old)) result (state_of machine.new) }
+    ensures { IsOutcome (model.executed size.shares size.bits statement.now (state_of machine.old)) result
+        (state_of machine.new) }
 {
     match statement {
         CStmt::Assign {

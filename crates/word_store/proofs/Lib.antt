@@ -1,0 +1,4 @@
+mod Shifting
+mod Indexing
+mod LookUps
+mod Wording

@@ -1,0 +1,2 @@
+pub mod WordStore
+pub mod MeaningLaw

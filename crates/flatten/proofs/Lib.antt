@@ -1,16 +1,2 @@
-pub mod Trees
-pub mod Made
-pub mod Extends
-pub mod Errors
-pub mod Chains
-pub mod Ordered
-pub mod Tables
-pub mod Takes
-pub mod Thinness
-pub mod Singles
-pub mod Small
-pub mod Counted
-pub mod Start
-pub mod Whole
-pub mod Closing
-pub mod Coverage
+mod Making
+mod Sources

@@ -1,14 +1,16 @@
 -- What outcomes the steps of an order leave.
-use Rattle.std.proofs.Common.{◌≡◌, ◌⊎◌, inl, inr, List, ℕ, Option, Some, Ok, Err, refl, sym, ◌∙◌, ap, subst}
+use Rattle.std.proofs.Common.{arith, ◌≡◌, ◌⊎◌, inl, inr, List, ℕ, Option, Some, None, Ok, Err, refl, sym, ◌∙◌, ap, subst}
 use Rattle.span_model.specs.Attack.{HasAttack}
 use Rattle.usuba_trees.specs.declared.File.{File}
 use Rattle.usuba_syntax.specs.Sources.{SpellsFile, HasFault}
 use Rattle.usuba_syntax.specs.SourceFaults.{SourceFault}
 use Rattle.usuba_syntax.specs.SourceFaults as read
-use Rattle.usuba0.specs.Circuit.{Circuit}
+use Rattle.usuba0.specs.Circuit.{Circuit, IsSmall, HasFewColumns}
 use Rattle.usuba0.specs.CoreText.{core_text}
-use Rattle.flatten.specs.SourceCore.{core_of_source}
-use Rattle.flatten.specs.Thin.{IsThin}
+use Rattle.usuba_model.specs.declared.fault.Fault.{Fault as JudgedFault}
+use Rattle.usuba_model.specs.Entries.{entry_of, width_of}
+use Rattle.usuba_model.specs.Judging.{fault_of}
+use Rattle.source_terms.specs.SourceTerms.{core_of_source}
 use Rattle.linear_view.specs.AttackLaw.{named}
 use Rattle.linear_view.specs.Rows.{core_products, core_view}
 use Rattle.linear_view.specs.RowsText.{rows_text}
@@ -20,7 +22,7 @@ use Rattle.tornado_main.specs.Coverage.{HasStatus, FitsOutcome}
 use Rattle.tornado_main.specs.Files.{Contents, IsFetched}
 use Rattle.tornado_main.specs.Outcome.{Outcome, answers}
 use Rattle.tornado_main.specs.Orders.{OrderEnds}
-use Rattle.tornado_main.specs.Source.{IsSource, IsFaultySource, syntax, too_deep, number_too_big, not_built}
+use Rattle.tornado_main.specs.Source.{HasCore, IsSource, IsFaultySource, PassesLimit, syntax, too_deep, number_too_big, not_judged, past_limit, too_large, too_many}
 use Rattle.tornado_main.specs.Steps.{AfterFile, not_read, faulty, goes_on}
 use Rattle.tornado_main.specs.commands.Check.{IsVerdict, IsAttackOfLeak, secure, found}
 use Rattle.tornado_main.specs.commands.Verify.{IsConfirmation, SpellsAttack, IsFaultyAttack, holds, fails, out_of_range, other_core}
@@ -120,21 +122,42 @@ attack_apart view bytes a _ x (verify.syntax _ line h) = let here : Ok a ≡ Err
 attack_apart view bytes a _ x (out_of_range _ line h) = let here : Ok a ≡ Err (cert.OutOfRange line) = sym x ∙ h in absurd (cc)
 attack_apart view bytes a _ x (other_core _ line h) = let here : Ok a ≡ Err (cert.OtherCore line) = sym x ∙ h in absurd (cc)
 
+-- a file without a fault has none
+no_judged_fault : (file : File) (fault : JudgedFault) → fault_of None None file ≡ None → ¬ (fault_of None None file ≡ Some fault)
+no_judged_fault file fault x y = let here : None ≡ Some fault = sym x ∙ y in absurd (cc)
+
+-- a core within both limits passes none
+limit_apart : (core : Circuit) (fault : Fault) → PassesLimit core fault → IsSmall core → ¬ HasFewColumns core
+limit_apart core _ (too_large more) small few = absurd (omega (arith, more, small))
+limit_apart core _ (too_many less more) small few = absurd (omega (arith, more, few))
+
 module _ (one_file : (bytes : List ℕ) (first second : File) → SpellsFile bytes first → SpellsFile bytes second → first ≡ second)
     (no_fault : (bytes : List ℕ) (file : File) (fault : SourceFault) → SpellsFile bytes file → ¬ HasFault bytes fault) where
   -- a source has one core, and none where it has a fault
-  source_one : (bytes : List ℕ) (a b : Circuit) → IsSource a bytes → IsSource b bytes → a ≡ b
-  source_one bytes a b x y =
+  core_one : (bytes : List ℕ) (a b : Circuit) → HasCore a bytes → HasCore b bytes → a ≡ b
+  core_one bytes a b x y =
       let same : x.file ≡ y.file = one_file bytes x.file y.file x.spelled y.spelled in
-      let here : Some a ≡ Some b = sym x.core_of_file ∙ ap core_of_source same ∙ y.core_of_file in
+      let widths : Some x.width ≡ Some y.width = sym x.judged.has_width ∙ ap (λ (f : File). width_of None f.defs) same ∙ y.judged.has_width in
+      let entries : Some x.entry ≡ Some y.entry = sym x.judged.has_entry ∙ ap (λ (f : File). entry_of None f.defs) same ∙ y.judged.has_entry in
+      let width : x.width ≡ y.width = cc in
+      let entry : x.entry ≡ y.entry = cc in
+      let cores : core_of_source x.width x.file x.entry ≡ core_of_source y.width y.file y.entry = cc in
+      let here : Some a ≡ Some b = sym x.core_of_file ∙ cores ∙ y.core_of_file in
       cc
 
+  source_one : (bytes : List ℕ) (a b : Circuit) → IsSource a bytes → IsSource b bytes → a ≡ b
+  source_one bytes a b x y = core_one bytes a b x.has_core y.has_core
+
   source_apart : (bytes : List ℕ) (a : Circuit) (fault : Fault) → IsSource a bytes → ¬ IsFaultySource fault bytes
-  source_apart bytes a _ x (syntax _ at h) = no_fault bytes x.file (read.Syntax at) x.spelled h
-  source_apart bytes a _ x (too_deep _ at h) = no_fault bytes x.file (read.TooDeep at) x.spelled h
-  source_apart bytes a _ x (number_too_big _ at h) = no_fault bytes x.file (read.NumberTooBig at) x.spelled h
-  source_apart bytes a _ x (not_built _ file spelled not_thin) =
-      not_thin (subst IsThin (one_file bytes x.file file x.spelled spelled) x.thin)
+  source_apart bytes a _ x (syntax _ at h) = no_fault bytes x.has_core.file (read.Syntax at) x.has_core.spelled h
+  source_apart bytes a _ x (too_deep _ at h) = no_fault bytes x.has_core.file (read.TooDeep at) x.has_core.spelled h
+  source_apart bytes a _ x (number_too_big _ at h) = no_fault bytes x.has_core.file (read.NumberTooBig at) x.has_core.spelled h
+  source_apart bytes a _ x (not_judged _ file kind at spelled has) =
+      let same : x.has_core.file ≡ file = one_file bytes x.has_core.file file x.has_core.spelled spelled in
+      let wrong : JudgedFault = record { kind = kind; place = at } in
+      no_judged_fault x.has_core.file wrong x.has_core.judged.no_fault (subst (λ (f : File). fault_of None None f ≡ Some wrong) (sym same) has)
+  source_apart bytes a fault x (past_limit _ core _ has passes) =
+      limit_apart a fault (subst (λ (c : Circuit). PassesLimit c fault) (core_one bytes core a has x.has_core) passes) x.small x.few_columns
 
   -- all outcomes of an order but refused fetches have one status
   pub order_one : (file : List ℕ → Option (List ℕ)) (o : Order) → HaveOneStatus (OrderEnds (Some file) o)

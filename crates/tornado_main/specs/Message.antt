@@ -2,11 +2,33 @@
 use Rattle.std.specs.Prelude.{ℕ, List, [], ◌++◌, codes, decimal}
 use Rattle.tor_edge.specs.declared.files.Reason.{Reason}
 use Rattle.tor_edge.specs.declared.files.Reason.TheVariants as reason
+use Rattle.usuba_model.specs.declared.fault.FaultKind.{FaultKind}
+use Rattle.usuba_model.specs.declared.fault.FaultKind.TheVariants as fault_kind
 use Rattle.tornado_main.specs.declared.message.Complaint.{Complaint}
 use Rattle.tornado_main.specs.declared.message.Complaint.TheVariants as complaint
 use Rattle.tornado_main.specs.declared.message.Spot.{Spot}
 use Rattle.tornado_main.specs.declared.message.Spot.TheVariants as spot
 use Rattle.tornado_main.specs.declared.message.Fault.{Fault}
+
+-- what is wrong with a source that was read, in words
+abbrev pub kind_text : FaultKind → List ℕ
+kind_text fault_kind.DuplicateName = codes "name declared twice"
+kind_text fault_kind.UnknownName = codes "unknown name"
+kind_text fault_kind.NoEntry = codes "no entry node"
+kind_text fault_kind.MixedWidth = codes "another width"
+kind_text fault_kind.NoWidth = codes "no width"
+kind_text fault_kind.BadTable = codes "bad table"
+kind_text fault_kind.BadPerm = codes "bad permutation"
+kind_text fault_kind.ZeroDivisor = codes "division by zero"
+kind_text fault_kind.IndexOut = codes "index out of range"
+kind_text fault_kind.ConstTooBig = codes "constant too big"
+kind_text fault_kind.ShiftTooFar = codes "shift too far"
+kind_text fault_kind.SizeMismatch = codes "sizes differ"
+kind_text fault_kind.TooManyOps = codes "too many operations"
+kind_text fault_kind.AssignedTwice = codes "assigned twice"
+kind_text fault_kind.Unassigned = codes "never assigned"
+kind_text fault_kind.Cyclic = codes "cyclic equations"
+kind_text fault_kind.CallsTooDeep = codes "calls too deep"
 
 -- what is wrong, in words
 abbrev pub complaint_text : Complaint → List ℕ
@@ -18,7 +40,9 @@ complaint_text complaint.OutOfMemory = codes "out of memory"
 complaint_text complaint.Syntax = codes "syntax"
 complaint_text complaint.TooDeep = codes "nesting too deep"
 complaint_text complaint.NumberTooBig = codes "number too big"
-complaint_text complaint.NotBuilt = codes "form not built"
+complaint_text (complaint.Judged kind) = kind_text kind
+complaint_text complaint.CoreTooLarge = codes "core too large"
+complaint_text complaint.ColumnsTooMany = codes "too many columns"
 complaint_text complaint.OutOfRange = codes "out of range"
 complaint_text complaint.OtherCore = codes "another core"
 

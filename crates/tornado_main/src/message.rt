@@ -1,8 +1,9 @@
 ghost use Rattle.std.specs.Prelude.{◌≡◌, ◌++◌, codes};
 ghost use Rattle.tor_edge.specs.Written.{Wrote};
-ghost use Rattle.tornado_main.specs.Message.{complaint_text, spot_text, run_message, file_message};
+ghost use Rattle.tornado_main.specs.Message.{kind_text, complaint_text, spot_text, run_message, file_message};
 
 use tor_edge::{Piece, Place, PutFault, Sink, put_pieces, put_text};
+use usuba_model::FaultKind;
 
 /// What is wrong.
 #[derive(Debug, Clone, Copy, PartialEq, Eq)]
@@ -15,7 +16,10 @@ pub enum Complaint {
     Syntax,
     TooDeep,
     NumberTooBig,
-    NotBuilt,
+    /// What is wrong with a source that was read.
+    Judged(FaultKind),
+    CoreTooLarge,
+    ColumnsTooMany,
     OutOfRange,
     OtherCore,
 }
@@ -53,10 +57,36 @@ impl Complaint {
             Complaint::Syntax => "syntax",
             Complaint::TooDeep => "nesting too deep",
             Complaint::NumberTooBig => "number too big",
-            Complaint::NotBuilt => "form not built",
+            Complaint::Judged(kind) => kind_text(kind),
+            Complaint::CoreTooLarge => "core too large",
+            Complaint::ColumnsTooMany => "too many columns",
             Complaint::OutOfRange => "out of range",
             Complaint::OtherCore => "another core",
         }
+    }
+}
+
+fn kind_text(kind: FaultKind) -> &'static str
+    ensures { result.now ≡ kind_text kind }
+{
+    match kind {
+        FaultKind::DuplicateName => "name declared twice",
+        FaultKind::UnknownName => "unknown name",
+        FaultKind::NoEntry => "no entry node",
+        FaultKind::MixedWidth => "another width",
+        FaultKind::NoWidth => "no width",
+        FaultKind::BadTable => "bad table",
+        FaultKind::BadPerm => "bad permutation",
+        FaultKind::ZeroDivisor => "division by zero",
+        FaultKind::IndexOut => "index out of range",
+        FaultKind::ConstTooBig => "constant too big",
+        FaultKind::ShiftTooFar => "shift too far",
+        FaultKind::SizeMismatch => "sizes differ",
+        FaultKind::TooManyOps => "too many operations",
+        FaultKind::AssignedTwice => "assigned twice",
+        FaultKind::Unassigned => "never assigned",
+        FaultKind::Cyclic => "cyclic equations",
+        FaultKind::CallsTooDeep => "calls too deep",
     }
 }
 

@@ -72,7 +72,7 @@ passed-refused law asked_width asked_entry file width entry fault passed is = (l
 -- the entry of a judged file is one of the definitions
 pub judged-entry : (program : Program) → IsProgram program → program.entry < length program.file.defs
 judged-entry program judged =
-    let less : program.entry < 0 + length program.file.defs = entry-within judged.1 0 program.file.defs program.entry judged.2.has_entry in
+    let less : program.entry < 0 + length program.file.defs = entry-within judged.asked_entry 0 program.file.defs program.entry judged.judged.has_entry in
     omega (arith, less)
 
 -- each definition of a walk without a fault has few elements
@@ -88,15 +88,15 @@ walked-at w signatures (first ∷ rest) (suc k) d none within is =
 judged-walks : (program : Program) → IsProgram program → walks_fault program.width [] program.file.defs ≡ None
 judged-walks program judged =
     let defs = program.file.defs in
-    let asked = judged.0 in
-    let late : fault_at_entry asked defs (entry_of judged.1 defs) ≡ None =
-    second_none (entry_fault (entry_of judged.1 defs)) _
-    (second_none (first_of UnknownName (unknown_names [] defs)) _ (second_none (first_of DuplicateName (repeated_names [] defs)) _ judged.2.no_fault)) in
-    let at : fault_at_entry asked defs (Some program.entry) ≡ None = subst (λ (o : Option ℕ). fault_at_entry asked defs o ≡ None) judged.2.has_entry late in
+    let asked = judged.asked_width in
+    let late : fault_at_entry asked defs (entry_of judged.asked_entry defs) ≡ None =
+    second_none (entry_fault (entry_of judged.asked_entry defs)) _
+    (second_none (first_of UnknownName (unknown_names [] defs)) _ (second_none (first_of DuplicateName (repeated_names [] defs)) _ judged.judged.no_fault)) in
+    let at : fault_at_entry asked defs (Some program.entry) ≡ None = subst (λ (o : Option ℕ). fault_at_entry asked defs o ≡ None) judged.judged.has_entry late in
     let later : later_fault_at (width_of asked defs) defs program.entry ≡ None =
     second_none (grid_fault defs) _ (second_none (width_fault defs program.entry (width_of asked defs)) _ at) in
     let whole : later_fault program.width defs program.entry ≡ None =
-    subst (λ (o : Option ℕ). later_fault_at o defs program.entry ≡ None) judged.2.has_width later in
+    subst (λ (o : Option ℕ). later_fault_at o defs program.entry ≡ None) judged.judged.has_width later in
     first_none _ _ whole
 
 -- the entry of a judged file has few elements

@@ -1,8 +1,8 @@
 mod Adding
 mod Naming
 mod Stopping
-mod Reaching
 mod Standing
 mod Declaring
 mod Deciding
 mod Fewness
+pub mod Entry

@@ -1,9 +1,11 @@
 -- What a file that is judged has: the file, its width, and its entry.
-use Rattle.std.specs.Prelude.{◌≡◌, ℕ, zero, suc, List, [], ◌∷◌, Option, Some}
+use Rattle.std.specs.Prelude.{◌≡◌, ℕ, zero, suc, List, [], ◌∷◌, Option, Some, IfSome}
+use Rattle.usuba_syntax.specs.Sources.{SpellsFile}
 use Rattle.usuba_trees.specs.declared.Def.{Def}
 use Rattle.usuba_trees.specs.declared.File.{File}
 use Rattle.usuba_model.specs.Judging.{fault_of, IsJudged}
 use Rattle.usuba_model.specs.Walk.{signature}
+use Rattle.source_shapes.specs.Shaped.{IsWidth}
 use Rattle.usuba_types.specs.declared.judging.JudgeFault.{JudgeFault}
 use Rattle.usuba_types.specs.declared.judging.JudgeFault.TheVariants as judge_fault
 
@@ -13,10 +15,18 @@ pub record Program : Type 0 where
   pub width : ℕ
   pub entry : ℕ
 
--- the program is a judged file, for some width and some entry that were asked for
-abbrev pub IsProgram : Program → Type 0
-IsProgram program =
-    (asked_width : Option ℕ) × (asked_entry : Option (List ℕ)) × IsJudged asked_width asked_entry program.file program.width program.entry
+-- some bytes spell the file
+abbrev pub IsSpelled : File → Type 0
+IsSpelled file = (bytes : List ℕ) × SpellsFile bytes file
+
+-- the program is a file that bytes spell and that is judged, for some entry that was asked for, and for no width or one of
+-- 1 to 64
+pub record IsProgram (program : Program) : Type 0 where
+  pub spelled : IsSpelled program.file
+  pub asked_width : Option ℕ
+  pub wide : IfSome asked_width IsWidth
+  pub asked_entry : Option (List ℕ)
+  pub judged : IsJudged asked_width asked_entry program.file program.width program.entry
 
 -- a refusal has its cause: the first fault of the file; want of memory has none
 abbrev pub IsRefusal : Option ℕ → Option (List ℕ) → File → JudgeFault → Type 0

@@ -1,5 +1,4 @@
 -- What the contracts of private functions cite. No public clause needs these files.
 pub mod Adding
-pub mod Marks
 pub mod Passing
 pub mod Deciding

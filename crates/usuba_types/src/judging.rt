@@ -1,6 +1,7 @@
-ghost use Rattle.std.specs.Prelude.{◌≡◌, option_map, IfOk, IfErr};
+ghost use Rattle.std.specs.Prelude.{◌≡◌, option_map, IfSome, IfOk, IfErr};
 ghost use Rattle.usuba_types.specs.declared.judging.JudgeFault.TheVariants.{Memory};
-ghost use Rattle.usuba_types.specs.Judged.{IsRefusal, IsJudgedAs, inputs_at, outputs_at};
+ghost use Rattle.source_shapes.specs.Shaped.{IsWidth};
+ghost use Rattle.usuba_types.specs.Judged.{IsSpelled, IsRefusal, IsJudgedAs, IsProgram, inputs_at, outputs_at};
 ghost use Rattle.usuba_types.specs.State.Deciding.{WasPassed, IsClean, IsLaterRefusal};
 
 use crate::counts::{Counts, counts_of};
@@ -13,7 +14,8 @@ use usuba_model::FaultKind;
 use usuba_phases::{Early, early_fault, early_faults_come_first};
 use usuba_trees::File;
 
-/// A file that passed all ten phases, with its width and its entry.
+/// A file that bytes spell and that passed all ten phases, with its width of 1 to 64 bits and its entry, which takes and gives
+/// at least one element.
 #[derive(Drop)]
 pub struct Judged {
     file: File,
@@ -60,9 +62,10 @@ impl Judged {
         &self.file
     }
 
-    /// The bits of an element.
+    /// The bits of an element, 1 to 64.
     pub fn width(&self) -> u32
-        ensures { result ≡ self.now.width }
+        ensures bits { result ≡ self.now.width }
+        ensures program { IsProgram self.now }
     {
         self.width
     }
@@ -110,13 +113,15 @@ fn judge_passed(alloc: Global, file: File, width: u32, entry: usize) -> Result<J
 }
 
 /// Judges a file at the width and for the entry that are asked for; where none is asked for, the width is the first of a
-/// type, and the entry is the last node.
+/// type, and the entry is the last node. On a refusal the file is dropped.
 pub fn judge(
     alloc: Global,
     file: File,
     width: Option<u32>,
     entry: Option<&str>,
 ) -> Result<Judged, JudgeFault>
+    requires wide { IfSome width IsWidth }
+    requires spelled { IsSpelled file }
     ensures program { IfOk result (IsJudgedAs width (option_map (λ name. name.now) entry.entry) file) }
     ensures refusal { IfErr result (IsRefusal width (option_map (λ name. name.now) entry.entry) file) }
 {

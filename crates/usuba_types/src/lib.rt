@@ -7,10 +7,8 @@ mod judging;
 mod laws;
 mod limits;
 mod passing;
-mod reach;
 mod sizes;
 
 pub use judging::{JudgeFault, Judged, judge};
 pub use laws::numbered_sizes;
-pub use reach::reached;
 pub use sizes::{CappedSize, size_of_node};

@@ -1,15 +1,20 @@
 -- What the later phases come to for a file that passed the first five.
-use Rattle.std.specs.Prelude.{◌≡◌, ℕ, List, Option, Some, None}
+use Rattle.std.specs.Prelude.{◌≡◌, ℕ, List, Option, Some, None, IfSome}
 use Rattle.usuba_trees.specs.declared.File.{File}
 use Rattle.usuba_model.specs.Judging.{later_fault}
+use Rattle.source_shapes.specs.Shaped.{IsWidth}
 use Rattle.usuba_phases.specs.Early.{IsPassed}
 use Rattle.usuba_types.specs.declared.judging.JudgeFault.{JudgeFault}
 use Rattle.usuba_types.specs.declared.judging.JudgeFault.TheVariants as judge_fault
-use Rattle.usuba_types.specs.Judged.{Program}
+use Rattle.usuba_types.specs.Judged.{Program, IsSpelled}
 
--- a file passed the first five phases, for some width and some entry that were asked for
-abbrev pub WasPassed : File → ℕ → ℕ → Type 0
-WasPassed file width entry = (asked_width : Option ℕ) × (asked_entry : Option (List ℕ)) × IsPassed asked_width asked_entry file width entry
+-- a file that bytes spell passed the first five phases, for some entry that was asked for, and for no width or one of 1 to 64
+pub record WasPassed (file : File) (width entry : ℕ) : Type 0 where
+  pub spelled : IsSpelled file
+  pub asked_width : Option ℕ
+  pub wide : IfSome asked_width IsWidth
+  pub asked_entry : Option (List ℕ)
+  pub passed : IsPassed asked_width asked_entry file width entry
 
 -- the later phases have no fault
 pub record IsClean (file : File) (width entry : ℕ) (program : Program) : Type 0 where

@@ -1,11 +1,22 @@
 use Rattle.std.proofs.Common.{Err, refl, ◌∙◌, ap}
 use Rattle.usuba_syntax.specs.declared.read.ReadFault.TheVariants as read
 use Rattle.usuba_syntax.specs.SourceFaults as source
-use Rattle.tornado_main.specs.Source.{IsFaultySource, syntax, too_deep, number_too_big, not_built}
+use Rattle.tornado_main.specs.Source.{IsFaultySource, syntax, too_deep, number_too_big}
 use Rattle.tornado_main.specs.declared.message.Complaint.TheVariants as complaint
 use Rattle.tornado_main.specs.declared.status.Status.TheVariants.{Source}
-use Rattle.tornado_main.proofs.RefusedLemmas.{refused_for, has_fault, at_place}
+use Rattle.tornado_main.proofs.RefusedLemmas.{refused_for, has_fault, at_place, source_of_these, refused_of_these}
 use Rattle.tornado_main.proofs.fetch.core_of_bytes.Goals as goal
+
+pub core_of_tree-requires : goal.core_of_tree-requires
+core_of_tree-requires c = (c.args.bytes.now, c.in-Ok.ensures.file)
+
+pub returns-in-Ok-clause-core : goal.returns-in-Ok-clause-core
+returns-in-Ok-clause-core c =
+    source_of_these c.args.bytes.now c.in-Ok.file c.in-Ok.ensures.file c.core_of_tree.result c.core_of_tree.ensures.core
+
+pub returns-in-Ok-clause-refused : goal.returns-in-Ok-clause-refused
+returns-in-Ok-clause-refused c =
+    refused_of_these c.args.name.now c.args.bytes.now c.in-Ok.file c.in-Ok.ensures.file c.core_of_tree.result c.core_of_tree.ensures.refused
 
 pub returns-in-Err-Syntax-clause-refused : goal.returns-in-Err-Syntax-clause-refused
 returns-in-Err-Syntax-clause-refused c =
@@ -27,8 +38,3 @@ returns-in-Err-NumberTooBig-clause-refused c =
     (at_place complaint.NumberTooBig c.args.bytes.now _ _ c.in-Err-NumberTooBig.at-is
     (number_too_big c.args.bytes.now c.in-Err-NumberTooBig.at
     (has_fault _ _ (read.NumberTooBig c.in-Err-NumberTooBig.at) (source.NumberTooBig c.in-Err-NumberTooBig.at) (c.in-Err-NumberTooBig.is ∙ ap Err c.in-Err-NumberTooBig.field-0-is) refl c.read_file.ensures.fault)))
-
-pub returns-in-Err-NotBuilt-clause-refused : goal.returns-in-Err-NotBuilt-clause-refused
-returns-in-Err-NotBuilt-clause-refused c =
-    refused_for Source c.args.name.now (λ f. IsFaultySource f c.args.bytes.now) _ _ c.faulty-in-Err-NotBuilt.ensures refl
-    (not_built c.args.bytes.now c.in-Ok.file c.in-Ok.ensures.file (c.core_of.ensures.refused (c.in-Err-NotBuilt.is ∙ ap Err c.in-Err-NotBuilt.field-0-is)))

@@ -1,0 +1,1 @@
+node f (x:b1, a:b1, b:b1, c:b1, d:b1, e:b1) returns (z:b6) let z = (x & a, (x ^ a) & b, (x ^ b) & c, (x ^ c) & d, (x ^ d) & e, (x ^ e) & x) tel

@@ -1,0 +1,1 @@
+table T (x:v2) returns (z:v1) {0, 1, 1, 1} node f (x:u16x2) returns (z:u16) let z = T(x) tel

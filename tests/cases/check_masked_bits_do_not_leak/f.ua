@@ -1,0 +1,1 @@
+node f (x:u2, y:u2) returns (z:u2, w:u2) let z = x & y; w = (x & 1) & (x ^ y) tel

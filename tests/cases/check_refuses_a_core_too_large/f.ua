@@ -1,0 +1,1 @@
+node f (x:b1) returns (z:b1) vars a:b131073 let a[0] = ~x; forall i in [1,131072] { a[i] = ~a[i-1] } z = a[131072] tel

@@ -1,0 +1,1 @@
+node g (a:b1, b:b1) returns (c:b1, d:b1) let c = a & b; d = a ^ b tel node f (x:b2) returns (z:b2) let z = g(g(g(x))) tel

@@ -1,0 +1,1 @@
+node f (x:b3) returns (z:b3) let forall i in [0-1,1] { z[i+1] = x[(i+2) % 3] } tel

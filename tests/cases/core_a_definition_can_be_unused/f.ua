@@ -1,0 +1,1 @@
+table T (x:v1) returns (y:v1) {0, 1} node g (x:b1) returns (z:b1) let z = ~x tel node f (x:b1) returns (z:b1) let z = x tel

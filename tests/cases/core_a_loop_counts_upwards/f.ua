@@ -1,0 +1,1 @@
+node f (x:u8[2][2]) returns (z:u8[2]) let forall i in [0,1] { z[i] = x[i][0] ^ x[1-i][1] } tel

@@ -1,0 +1,1 @@
+node f (x:b1, y:b23) returns (z:b24) let z[0] = x & y[0]; z[1] = (x ^ y[0]) & y[1]; forall k in [2,22] { z[k] = (x ^ y[k-1] ^ y[k-2]) & y[k] } z[23] = (x ^ y[22] ^ y[21]) & x tel

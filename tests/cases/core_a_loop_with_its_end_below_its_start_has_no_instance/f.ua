@@ -1,0 +1,1 @@
+node f (x:b1) returns (z:b1) let forall i in [1,0] { z = ~x } z = x tel

@@ -1,0 +1,1 @@
+perm P (x:b2) returns (y:b3) {2, 2, 1} node f (x:b2) returns (z:b3) let z = P(x) tel

@@ -1,0 +1,1 @@
+node f (x:u8x3) returns (z:u8x3) let z = x[2..0] tel

@@ -1,0 +1,1 @@
+node f (x:b4) returns (z:b4) let z[3..0] = x tel

@@ -1,0 +1,1 @@
+node f (x:b2) returns (z:b2) let z = refresh(x, 0) tel

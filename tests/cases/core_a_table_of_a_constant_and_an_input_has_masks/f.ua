@@ -1,0 +1,1 @@
+table T (x:v2) returns (y:v1) { 0, 0, 0, 1 } node f (x:u8) returns (z:u8) let z = T(x, 15) tel

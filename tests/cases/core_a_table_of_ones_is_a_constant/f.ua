@@ -1,0 +1,1 @@
+table T (x:v1) returns (y:v1) { 1, 1 } node f (x:u8) returns (z:u8) let z = T(x) tel

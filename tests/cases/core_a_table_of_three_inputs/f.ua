@@ -1,0 +1,1 @@
+table T (x:v3) returns (y:v1) { 0, 0, 0, 1, 0, 1, 1, 1 } node f (x:b3) returns (z:b1) let z = T(x) tel

@@ -1,0 +1,1 @@
+node f (x:b2, y:b1) returns (z:b3) let z = (y, x) tel

@@ -1,0 +1,1 @@
+_inline table T (x:v1) returns (y:v1) {0, 1} _no_inline perm P (x:v1) returns (y:v1) {1} _inline node f (x:b1) returns (z:b1) let z = P(T(x)) tel

@@ -1,0 +1,1 @@
+node f (x:b3) returns (z:b3) let forall i in [0,2] { forall j in [i,i] { z[j] = x[2-i] } } tel

@@ -1,0 +1,1 @@
+node a (x:u8x2) returns (z:u8x2) let z = (x[1], x[0] ^ x[1] <<< 1) tel node b (x:u8x2) returns (z:u8x2) let z = a(a(x)) tel node f (x:u8x2) returns (z:u8x2) vars t:u8x2[3] let t[0] = x; forall i in [0,1] { t[i+1] = b(t[i]) } z = t[2] tel

@@ -1,0 +1,1 @@
+node f (x:b16) returns (z:b2) let z = (x[9-4-3], x[8/2/2]) tel

@@ -1,0 +1,1 @@
+node f (x:b4) returns (z:b2) let z = (x[(0-7)/2+3], x[7/2]) tel

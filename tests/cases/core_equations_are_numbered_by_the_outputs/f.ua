@@ -1,0 +1,1 @@
+node f (x:b2) returns (y:b1, z:b1) vars a:b1 let z = x[0] & x[1]; a = x[0] ^ x[1]; y = a & x[1] tel

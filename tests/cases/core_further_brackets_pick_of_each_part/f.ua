@@ -1,0 +1,1 @@
+node f (x:b2[3]) returns (z:b3) let z = x[0..2][1] tel

@@ -1,0 +1,1 @@
+node f (in:u8x4) returns (u8:u8x4) let forall u16 in [0, 3] { u8[u16] = in[u16] } tel

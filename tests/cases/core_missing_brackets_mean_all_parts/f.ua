@@ -1,0 +1,1 @@
+node f (x:b2[3]) returns (z:b2) let z = x[2] tel

@@ -1,0 +1,1 @@
+node f (x:u8) returns (z:u8x3) let z = (7, 7, 3 ^ 4) tel

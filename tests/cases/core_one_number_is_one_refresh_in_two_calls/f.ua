@@ -1,0 +1,1 @@
+node g (a:b1) returns (b:b1) let b = refresh(a, 7) tel node h (a:b1) returns (b:b1) let b = refresh(a, 7) tel node f (x:b1) returns (z:b3) let z = (g(x), g(x), h(x)) tel

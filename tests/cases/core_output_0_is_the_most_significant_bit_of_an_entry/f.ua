@@ -1,0 +1,1 @@
+table T (x:v1) returns (y:v2) { 1, 2 } node f (x:b1) returns (z:b2) let z = T(x) tel

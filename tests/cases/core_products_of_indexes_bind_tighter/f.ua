@@ -1,0 +1,1 @@
+node f (x:b16) returns (z:b2) let z = (x[1+2*3], x[9-4/2-1]) tel

@@ -1,0 +1,1 @@
+node swap (x,y:b1) returns (a,b:b1) let (a, b) = (y, x) tel node f (x:b2) returns (z:b2) let (z[1], z[0]) = swap(~x) tel

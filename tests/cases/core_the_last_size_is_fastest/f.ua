@@ -1,0 +1,1 @@
+node f (x:b2[3][2]) returns (z:b12) let forall i in [0,2] { forall j in [0,1] { forall k in [0,1] { z[4*i+2*j+k] = x[i][j][k] } } } tel

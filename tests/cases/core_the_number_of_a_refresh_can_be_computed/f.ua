@@ -1,0 +1,1 @@
+node f (x:b1) returns (z:b2) let forall i in [0,1] { z[i] = refresh(x, i*2-i) } tel

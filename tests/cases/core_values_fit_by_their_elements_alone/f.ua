@@ -1,0 +1,1 @@
+node f (x:b4, y:b2[2]) returns (z:b4) let z = x ^ y tel

@@ -1,0 +1,1 @@
+node g (x:b1) returns (z:b1) let z = x[1] tel table T (x:v1) returns (y:v1) {2, 0} node f (x:b1) returns (z:b1) let z = x tel

@@ -1,0 +1,1 @@
+node g (a:b2) returns (b:b2) let b = (a[1], a[0]) tel node f (x:b1) returns (z:b2) let z = g(x, z[0]) tel

@@ -1,0 +1,1 @@
+node f (in:b1) returns (z:b1) let forall in in [0,0] { z = in } tel

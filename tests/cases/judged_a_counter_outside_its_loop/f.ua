@@ -1,0 +1,1 @@
+node f (x:b2) returns (z:b2) let forall i in [0,0] { z[i] = x[i] } z[1] = x[i] tel

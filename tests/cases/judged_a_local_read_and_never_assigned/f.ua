@@ -1,0 +1,1 @@
+node f (x:b1) returns (z:b1) vars a:b2 let a[0] = x; z = a[1] tel

@@ -1,0 +1,1 @@
+node f (x:b1) returns (z:b1) let forall i in [0,9223372036854775807] {} z = x tel

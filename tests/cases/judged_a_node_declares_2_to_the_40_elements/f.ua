@@ -1,0 +1,1 @@
+node f (x:b1[1099511627776]) returns (z:b1) let z = x[0] tel

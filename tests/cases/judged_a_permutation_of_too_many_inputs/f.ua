@@ -1,0 +1,1 @@
+perm P (x:v1[4194305]) returns (y:v1) {1} node f (x:b1) returns (z:b1) let z = x tel

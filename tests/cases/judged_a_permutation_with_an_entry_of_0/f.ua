@@ -1,0 +1,1 @@
+perm P (x:b2) returns (y:b2) {0, 1} node f (x:b2) returns (z:b2) let z = P(x) tel

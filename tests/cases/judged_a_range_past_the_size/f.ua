@@ -1,0 +1,1 @@
+node f (x:b2) returns (z:b3) let z = x[0..2] tel

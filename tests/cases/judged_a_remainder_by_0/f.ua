@@ -1,0 +1,1 @@
+node f (x:b2) returns (z:b1) let forall i in [0,1] { z = x[1%i] } tel

@@ -1,0 +1,1 @@
+table T (x:b1) returns (y:b1) {1, 1, 1}

@@ -1,0 +1,1 @@
+node f (x:b1) returns (z:b1) let z = x tel table T (x:v1) returns (y:v65) {0, 1}

@@ -1,0 +1,1 @@
+table T (x:v4) returns (y:v4) {0,1,2,3,4,5,6,7,8,9,10,11,12,13,14} node f (x:b4) returns (z:b4) let z = T(x) tel

@@ -1,0 +1,1 @@
+node f (x:b2) returns (z:b2) let z = x; x[1] = x[0] tel

@@ -1,0 +1,1 @@
+node f (x:b2) returns (z:b2) let z[0] = x[0] tel

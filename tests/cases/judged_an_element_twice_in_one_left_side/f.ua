@@ -1,0 +1,1 @@
+node f (x:b2) returns (z:b1) let (z, z) = x tel

@@ -1,0 +1,1 @@
+node f (x:b1) returns (z:b1) vars a:b1, b:b1 let z = a; a = b; b = a tel

@@ -1,0 +1,1 @@
+node f (x:b4) returns (z:b4) let forall i in [0,3] { z[i] = x[i+1] } tel

@@ -1,0 +1,1 @@
+node f (x:u1) returns (z:u1) let z = x[0] tel

@@ -1,0 +1,1 @@
+table T (x:b1) returns (y:b1) {0, 1} node f (x:u8) returns (z:u8) let z = x tel

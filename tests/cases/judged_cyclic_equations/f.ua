@@ -1,0 +1,1 @@
+node f (x:b1) returns (z:b1) vars a:b1, b:b1 let a = b ^ x; b = a ^ x; z = a tel

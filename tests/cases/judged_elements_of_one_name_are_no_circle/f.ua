@@ -1,0 +1,1 @@
+node f (x:b1) returns (z:b3) let z[2] = ~z[1]; z[1] = ~z[0]; z[0] = x tel

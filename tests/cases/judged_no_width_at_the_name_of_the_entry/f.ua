@@ -1,0 +1,1 @@
+node g (x:v1) returns (z:v1) let z = x tel node f (x:v1) returns (z:v1) let z = x tel perm P (x:v1) returns (z:v1) {1}

@@ -1,0 +1,1 @@
+node f (x:b2, y:b1) returns (z:b2) let z = x & y tel

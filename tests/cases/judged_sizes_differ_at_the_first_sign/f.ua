@@ -1,0 +1,1 @@
+node f (x:b2, y:b1, w:b2) returns (z:b1) let z = x & y & w[5] tel

@@ -1,0 +1,1 @@
+node f (x:b1) returns (z:b1) let z = x tel table f (x:b1) returns (z:b1) {0, 1} node g (x:b1) returns (z:b1) let z = x tel

@@ -1,0 +1,1 @@
+node f (x:b1) returns (z:b1) let forall i in [1,4194302] {} z[1] = x tel

@@ -1,0 +1,1 @@
+node f (x:u64x512) returns (z:u64) let z = x[511] tel

@@ -1,0 +1,1 @@
+node f (x:b1) returns (z:b1) vars a:b16385 let a[0] = x; forall i in [1,16384] { a[i] = a[i-1] & x } z = a[16384] tel

@@ -1,0 +1,1 @@
+node f (x:b32769, y:b131073) returns (z:b131073) let z = ~y tel

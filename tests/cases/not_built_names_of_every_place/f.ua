@@ -1,1 +1,0 @@
-node f (in:u8) returns (u8:u8) let forall in in [0, 3] { u8[in] = in } tel

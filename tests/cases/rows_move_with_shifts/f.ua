@@ -1,0 +1,1 @@
+node f (x:u2) returns (z:u2x3) let z = ((x << 1) & x, (x >> 1) & x, (x <<< 1) & x) tel

@@ -1,0 +1,1 @@
+table T (x:v2) returns (z:v1) {0, 1, 1, 1} node f (x:b2) returns (z:b1) let z = T(x) tel

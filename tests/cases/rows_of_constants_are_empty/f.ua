@@ -1,0 +1,1 @@
+node f (x:u2) returns (z:u2) let z = (x ^ 3) & ~x tel

@@ -80,7 +80,7 @@ text_size core =
     let outputs = outputs_size core.outputs in
     omega (arith, outputs, length-append (front ++ outputs_text core.outputs) (codes "\n"), length-append front (outputs_text core.outputs))
 
--- what `parts_within` asks for, and that its answer is the one that is wanted
+-- what `core_within` asks for, and that its answer is the one that is wanted
 pub record Made (bytes : List ℕ) (core : Circuit) : Type 0 where
   pub few_equations : length core.equations < 2 ^ 32
   pub few_outputs : length core.outputs < 2 ^ 32

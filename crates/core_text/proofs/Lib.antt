@@ -5,3 +5,4 @@ pub mod LineLemmas
 pub mod LawLemmas
 pub mod CoreLemmas
 pub mod RoundLemmas
+pub mod FaultLemmas

@@ -1,6 +1,6 @@
 -- What the functions answer of which each reads a part of the text. A register of 2^32 or more is kept as 2^32 - 1: a core with so many
 -- registers is past its limits.
-use Rattle.std.specs.Prelude.{◌≡◌, ℕ, ◌-◌, ◌<◌, ◌^◌, length, nat_lt, if◌then◌else◌, List, ◌++◌, map, Result, Ok, Err}
+use Rattle.std.specs.Prelude.{◌≡◌, ℕ, ◌-◌, ◌^◌, nat_lt, if◌then◌else◌, List, ◌++◌, map, Result, Ok, Err}
 use Rattle.core_text.specs.declared.fault.CoreFault.{CoreFault}
 use Rattle.core_text.specs.declared.fault.CoreFault.TheVariants as fault
 use Rattle.core_text.specs.Reading.{Body, body_from}
@@ -8,7 +8,6 @@ use Rattle.text_lines.specs.Lines.{LinesLeft}
 use Rattle.usuba0.specs.declared.circuit.Gate.{Gate}
 use Rattle.usuba0.specs.declared.circuit.Gate.TheVariants as gate
 use Rattle.usuba0.specs.declared.circuit.Reg.{Reg}
-use Rattle.usuba0.specs.Circuit.{IsCore}
 
 -- a register as it is kept
 abbrev pub kept : Reg → Reg
@@ -54,9 +53,3 @@ IsAnswer shown (Ok said) wanted = wanted ≡ Ok (shown said)
 abbrev pub IsMemory : CoreFault → Type 0
 IsMemory (fault.Memory error) = Unit {0}
 IsMemory wrong = ⊥
-
--- what holds of the fields of a core that was read
-pub record AreFields (width inputs : ℕ) (equations : List Gate) (outputs : List Reg) : Type 0 where
-  pub core : IsCore (record { width = width; inputs = inputs; equations = equations; outputs = outputs })
-  pub few_equations : length equations < 2 ^ 32
-  pub few_outputs : length outputs < 2 ^ 32

@@ -100,3 +100,13 @@ core_of bytes = within_limits (circuit_of bytes)
 abbrev pub IsOrMemory : {X : Type 0} → Result X CoreFault → Result X CoreFault → Type 0
 IsOrMemory (Err (fault.Memory error)) wanted = Unit {0}
 IsOrMemory answer wanted = answer ≡ wanted
+
+-- a fault of the bytes: of a line, or that the core does not fit
+abbrev pub IsFault : CoreFault → Type 0
+IsFault (fault.Memory error) = ⊥
+IsFault wrong = Unit {0}
+
+-- a core, or a fault of the bytes
+abbrev pub IsCoreOrFault : {X : Type 0} → Result X CoreFault → Type 0
+IsCoreOrFault (Ok core) = Unit {0}
+IsCoreOrFault (Err wrong) = IsFault wrong

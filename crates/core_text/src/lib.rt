@@ -4,10 +4,8 @@
 mod fault;
 mod line;
 mod operand;
-mod parts;
 mod read;
 mod right_side;
 
 pub use fault::CoreFault;
-pub use parts::CoreParts;
-pub use read::{read_is_written, read_parts, written_is_read};
+pub use read::{core_or_fault, read_core, read_is_written, written_is_read};

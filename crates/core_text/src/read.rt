@@ -8,20 +8,19 @@ ghost use Rattle.usuba0.specs.CoreText.{core_text};
 
 use crate::fault::CoreFault;
 use crate::line::{equation_line, inputs_line, is_outputs, outputs_line, width_line};
-use crate::parts::CoreParts;
 use std::alloc::Global;
 use text_lines::{Lines, Words};
-use usuba0::{Gate, MAX_COLUMNS, Reg};
+use usuba0::{Core, Gate, MAX_COLUMNS, Reg};
 
 /// Reads a core from its text.
-pub fn read_parts(alloc: Global, bytes: &[u8]) -> Result<CoreParts, CoreFault>
+pub fn read_core(alloc: Global, bytes: &[u8]) -> Result<Core, CoreFault>
     requires { length bytes.now ≤ 2 ^ 31 }
     ensures { reading.IsOrMemory result (reading.core_of bytes.now) }
 {
     let mut lines = Lines::new(bytes);
     let (width, inputs) = read_head(&mut lines)?;
     let read = read_body(alloc, width, inputs, &mut lines)?;
-    parts_within(width, inputs, read)
+    core_within(width, inputs, read)
 }
 
 /// The equations and the outputs of a text.
@@ -85,8 +84,8 @@ fn read_body(
     Ok(Read { equations, outputs })
 }
 
-// The circuit, if it is within the limits. The registers of one with more inputs than columns may have been cut.
-fn parts_within(width: u32, inputs: u32, read: Read) -> Result<CoreParts, CoreFault>
+// The core, if it is within the limits. The registers of one with more inputs than columns may have been cut.
+fn core_within(width: u32, inputs: u32, read: Read) -> Result<Core, CoreFault>
     requires some_width { 0 < width }
     requires few_equations { length read.equations.items < 2 ^ 32 }
     requires few_outputs { length read.outputs.items < 2 ^ 32 }
@@ -99,9 +98,9 @@ fn parts_within(width: u32, inputs: u32, read: Read) -> Result<CoreParts, CoreFa
     if u64::from(inputs) > MAX_COLUMNS {
         return Err(CoreFault::Limit);
     }
-    let parts = CoreParts::new(width, inputs, equations, outputs);
-    if parts.fits() {
-        Ok(parts)
+    let core = Core::new(width, inputs, equations, outputs);
+    if core.fits() {
+        Ok(core)
     } else {
         Err(CoreFault::Limit)
     }
@@ -117,4 +116,9 @@ pub fn written_is_read()
 pub fn read_is_written()
     ensures { (bytes : List ℕ) (core : Circuit) → reading.core_of bytes ≡ Ok core
         → IsCore core × IsSmall core × HasFewColumns core × (bytes ≡ core_text core) }
+{}
+
+/// Bytes are read as a core or have a fault.
+pub fn core_or_fault()
+    ensures { (bytes : List ℕ) → reading.IsCoreOrFault (reading.core_of bytes) }
 {}

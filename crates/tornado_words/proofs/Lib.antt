@@ -1,3 +1,6 @@
 mod LawLemmas
 mod MatchLemmas
 mod NumberLemmas
+mod RangeLemmas
+mod RefusalLemmas
+mod ValueLemmas

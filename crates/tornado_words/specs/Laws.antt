@@ -1,7 +1,11 @@
 -- What holds of the orders of words.
-use Rattle.std.specs.Prelude.{◌≡◌, List, [], ◌∷◌, codes, Some, None}
-use Rattle.clap.specs.Walk.{Text}
-use Rattle.tornado_words.specs.Orders.{order_of}
+use Rattle.std.specs.Prelude.{◌≡◌, not, List, [], ◌∷◌, codes, Some, None, is_some, IsSome}
+use Rattle.clap.specs.Walk.{Row, Rule, Text, first_of}
+use Rattle.tornado_words.specs.Arguments.{matches_on, positionals}
+use Rattle.tornado_words.specs.Orders.{order_in, order_of}
+use Rattle.tornado_words.specs.Ranges.{IsInRange}
+use Rattle.tornado_words.specs.Refusals.{is_refused}
+use Rattle.tornado_words.specs.declared.command_word.CommandWord.{CommandWord}
 use Rattle.tornado_words.specs.declared.order.Basis.TheVariants as basis
 use Rattle.tornado_words.specs.declared.order.Order.{Order}
 use Rattle.tornado_words.specs.declared.order.Order.TheVariants as order
@@ -10,6 +14,25 @@ use Rattle.tornado_words.specs.declared.order.Order.TheVariants as order
 abbrev pub OneOrder : Type 0
 OneOrder = (words : List Text) (first second : Order)
     → order_of words ≡ Some first → order_of words ≡ Some second → first ≡ second
+
+-- each of these arguments has a value
+abbrev pub HaveValues : List Row → List Rule → Type 0
+HaveValues rows [] = Unit {0}
+HaveValues rows (rule ∷ rules) = IsSome (first_of rule.id rows) × HaveValues rows rules
+
+-- where `clap` takes the words of a command, each word that has to be given is there
+abbrev pub WordsAreGiven : Type 0
+WordsAreGiven = (named : CommandWord) (words : List Text) (rows : List Row)
+    → matches_on named words ≡ Some rows → HaveValues rows (positionals named)
+
+-- words that `clap` takes are no order only where `--core` stands with `--width` or `--entry`, or a number is wrong
+abbrev pub RefusedAlone : Type 0
+RefusedAlone = (named : CommandWord) (words : List Text) (rows : List Row)
+    → matches_on named words ≡ Some rows → is_some (order_in named rows) ≡ not (is_refused named rows)
+
+-- the numbers of an order are in their ranges
+abbrev pub OrdersAreInRange : Type 0
+OrdersAreInRange = (words : List Text) (order : Order) → order_of words ≡ Some order → IsInRange order
 
 -- a file alone is a source, of which the last node is meant
 abbrev pub FileAlone : Type 0

@@ -11,6 +11,6 @@ mod parsing;
 mod reading;
 mod values;
 
-pub use laws::{one_order, ordinary_words};
+pub use laws::{one_order, orders_are_in_range, ordinary_words, refused_alone, words_are_given};
 pub use order::{Basis, Order, WordFault};
 pub use reading::order_of;

@@ -5,7 +5,10 @@ use Rattle.usuba_trees.specs.declared.File.{File}
 use Rattle.usuba_syntax.specs.Sources.{SpellsFile, HasFault}
 use Rattle.usuba_syntax.specs.SourceFaults.{SourceFault}
 use Rattle.usuba_syntax.specs.SourceFaults as read
-use Rattle.usuba0.specs.Circuit.{Circuit, IsSmall, HasFewColumns}
+use Rattle.usuba0.specs.Circuit.{Circuit, IsCore, IsSmall, HasFewColumns}
+use Rattle.core_text.specs.Reading.{core_of as core_of_text}
+use Rattle.core_text.specs.declared.fault.CoreFault.{CoreFault}
+use Rattle.core_text.specs.declared.fault.CoreFault.TheVariants as core_fault
 use Rattle.usuba0.specs.CoreText.{core_text}
 use Rattle.usuba_model.specs.declared.fault.Fault.{Fault as JudgedFault}
 use Rattle.usuba_model.specs.Entries.{entry_of, width_of}
@@ -23,6 +26,9 @@ use Rattle.tornado_main.specs.Files.{Contents, IsFetched}
 use Rattle.tornado_main.specs.Outcome.{Outcome, answers}
 use Rattle.tornado_main.specs.Orders.{OrderEnds}
 use Rattle.tornado_main.specs.Source.{HasCore, IsSource, IsFaultySource, PassesLimit, syntax, too_deep, number_too_big, not_judged, past_limit, too_large, too_many}
+use Rattle.tornado_main.specs.Bases as bases
+use Rattle.tornado_main.specs.CoreText.{IsCoreText, IsFaultyCoreText}
+use Rattle.tornado_main.specs.CoreText as text
 use Rattle.tornado_main.specs.Steps.{AfterFile, not_read, faulty, goes_on}
 use Rattle.tornado_main.specs.commands.Check.{IsVerdict, IsAttackOfLeak, secure, found}
 use Rattle.tornado_main.specs.commands.Verify.{IsConfirmation, SpellsAttack, IsFaultyAttack, holds, fails, out_of_range, other_core}
@@ -30,8 +36,10 @@ use Rattle.tornado_main.specs.commands.Verify as verify
 use Rattle.tornado_main.specs.declared.message.Fault.{Fault}
 use Rattle.tornado_main.specs.declared.status.Status.{Status}
 use Rattle.tornado_main.specs.declared.status.Status.TheVariants as exit
-use Rattle.tornado_main.specs.declared.words.Order.{Order}
-use Rattle.tornado_main.specs.declared.words.Order.TheVariants as order
+use Rattle.tornado_words.specs.declared.order.Basis.{Basis}
+use Rattle.tornado_words.specs.declared.order.Basis.TheVariants as basis
+use Rattle.tornado_words.specs.declared.order.Order.{Order}
+use Rattle.tornado_words.specs.declared.order.Order.TheVariants as order
 
 -- what goes on from a file fits where the rest does
 after_fits : {A : Type 0} (contents : Contents) (name : List ℕ) (at_fault : Status) (Holds : A → List ℕ → Type 0) (IsFaulty : Fault → List ℕ → Type 0)
@@ -55,11 +63,17 @@ confirmation_fits core attack _ (fails not) = inr refl
 
 -- every outcome of an order has a status of its kind
 pub order_fits : (contents : Contents) (o : Order) (end : Outcome) → OrderEnds contents o end → FitsOutcome end
-order_fits contents (order.Core file) = after_fits contents file exit.Source _ _ _ (inl refl) (λ core end. done_fits _ end)
-order_fits contents (order.Rows file) = after_fits contents file exit.Source _ _ _ (inl refl) (λ core end. done_fits _ end)
-order_fits contents (order.Check file) = after_fits contents file exit.Source _ _ _ (inl refl) verdict_fits
-order_fits contents (order.Verify file attack) =
+order_fits contents (order.Core file basis) = after_fits contents file exit.Source _ _ _ (inl refl) (λ core end. done_fits _ end)
+order_fits contents (order.Rows file basis) = after_fits contents file exit.Source _ _ _ (inl refl) (λ core end. done_fits _ end)
+order_fits contents (order.Check file basis) = after_fits contents file exit.Source _ _ _ (inl refl) verdict_fits
+order_fits contents (order.Verify file attack basis) =
     after_fits contents file exit.Source _ _ _ (inl refl) (λ core. after_fits contents attack exit.Values _ _ _ (inr refl) (confirmation_fits core))
+order_fits contents (order.Eval file values basis) = λ end ends. absurd ends
+order_fits contents (order.Repair file basis) = λ end ends. absurd ends
+order_fits contents (order.Compile file word basis) = λ end ends. absurd ends
+order_fits contents (order.Run cfile values) = λ end ends. absurd ends
+order_fits contents (order.Trial file shares seed basis) = λ end ends. absurd ends
+order_fits contents (order.Gen seed size) = λ end ends. absurd ends
 
 -- where the contents are told, two fetches of a name answer the same bytes
 same_bytes : (file : List ℕ → Option (List ℕ)) (name a b : List ℕ) → IsFetched (Some file) name a → IsFetched (Some file) name b → a ≡ b
@@ -123,47 +137,91 @@ attack_apart view bytes a _ x (out_of_range _ line h) = let here : Ok a ≡ Err 
 attack_apart view bytes a _ x (other_core _ line h) = let here : Ok a ≡ Err (cert.OtherCore line) = sym x ∙ h in absurd (cc)
 
 -- a file without a fault has none
-no_judged_fault : (file : File) (fault : JudgedFault) → fault_of None None file ≡ None → ¬ (fault_of None None file ≡ Some fault)
-no_judged_fault file fault x y = let here : None ≡ Some fault = sym x ∙ y in absurd (cc)
+no_judged_fault : (asked_width : Option ℕ) (asked_entry : Option (List ℕ)) (file : File) (fault : JudgedFault)
+    → fault_of asked_width asked_entry file ≡ None → ¬ (fault_of asked_width asked_entry file ≡ Some fault)
+no_judged_fault asked_width asked_entry file fault x y = let here : None ≡ Some fault = sym x ∙ y in absurd (cc)
 
 -- a core within both limits passes none
 limit_apart : (core : Circuit) (fault : Fault) → PassesLimit core fault → IsSmall core → ¬ HasFewColumns core
 limit_apart core _ (too_large more) small few = absurd (omega (arith, more, small))
 limit_apart core _ (too_many less more) small few = absurd (omega (arith, more, few))
 
+-- what is written of a core is read as the same core
+abbrev pub WrittenIsRead : Type 0
+WrittenIsRead = (core : Circuit) → IsCore core → IsSmall core → HasFewColumns core → core_of_text (core_text core) ≡ Ok core
+
+module _ (written_is_read : WrittenIsRead) where
+  read_again : (bytes : List ℕ) (core : Circuit) → IsCoreText core bytes → core_of_text bytes ≡ Ok core
+  read_again bytes core is = ap core_of_text is.text ∙ written_is_read core is.is_core is.small is.few_columns
+
+  -- core text has one core, and none where it has a fault
+  text_one : (bytes : List ℕ) (a b : Circuit) → IsCoreText a bytes → IsCoreText b bytes → a ≡ b
+  text_one bytes a b x y = let here : Ok a ≡ Ok b = sym (read_again bytes a x) ∙ read_again bytes b y in cc
+
+  no_text_fault : (bytes : List ℕ) (a : Circuit) (fault : CoreFault) → IsCoreText a bytes → ¬ (core_of_text bytes ≡ Err fault)
+  no_text_fault bytes a fault x h = let here : Ok a ≡ Err fault = sym (read_again bytes a x) ∙ h in absurd (cc)
+
+  text_apart : (bytes : List ℕ) (a : Circuit) (fault : Fault) → IsCoreText a bytes → ¬ IsFaultyCoreText fault bytes
+  text_apart bytes a _ x (text.syntax _ line h) = no_text_fault bytes a (core_fault.Syntax line) x h
+  text_apart bytes a _ x (text.out_of_range _ line h) = no_text_fault bytes a (core_fault.OutOfRange line) x h
+  text_apart bytes a _ x (text.past_limit _ h) = no_text_fault bytes a core_fault.Limit x h
+
 module _ (one_file : (bytes : List ℕ) (first second : File) → SpellsFile bytes first → SpellsFile bytes second → first ≡ second)
-    (no_fault : (bytes : List ℕ) (file : File) (fault : SourceFault) → SpellsFile bytes file → ¬ HasFault bytes fault) where
+    (no_fault : (bytes : List ℕ) (file : File) (fault : SourceFault) → SpellsFile bytes file → ¬ HasFault bytes fault)
+    (asked_width : Option ℕ) (asked_entry : Option (List ℕ)) where
   -- a source has one core, and none where it has a fault
-  core_one : (bytes : List ℕ) (a b : Circuit) → HasCore a bytes → HasCore b bytes → a ≡ b
+  core_one : (bytes : List ℕ) (a b : Circuit) → HasCore asked_width asked_entry a bytes → HasCore asked_width asked_entry b bytes → a ≡ b
   core_one bytes a b x y =
       let same : x.file ≡ y.file = one_file bytes x.file y.file x.spelled y.spelled in
-      let widths : Some x.width ≡ Some y.width = sym x.judged.has_width ∙ ap (λ (f : File). width_of None f.defs) same ∙ y.judged.has_width in
-      let entries : Some x.entry ≡ Some y.entry = sym x.judged.has_entry ∙ ap (λ (f : File). entry_of None f.defs) same ∙ y.judged.has_entry in
+      let widths : Some x.width ≡ Some y.width =
+      sym x.judged.has_width ∙ ap (λ (f : File). width_of asked_width f.defs) same ∙ y.judged.has_width in
+      let entries : Some x.entry ≡ Some y.entry =
+      sym x.judged.has_entry ∙ ap (λ (f : File). entry_of asked_entry f.defs) same ∙ y.judged.has_entry in
       let width : x.width ≡ y.width = cc in
       let entry : x.entry ≡ y.entry = cc in
       let cores : core_of_source x.width x.file x.entry ≡ core_of_source y.width y.file y.entry = cc in
       let here : Some a ≡ Some b = sym x.core_of_file ∙ cores ∙ y.core_of_file in
       cc
 
-  source_one : (bytes : List ℕ) (a b : Circuit) → IsSource a bytes → IsSource b bytes → a ≡ b
+  source_one : (bytes : List ℕ) (a b : Circuit) → IsSource asked_width asked_entry a bytes → IsSource asked_width asked_entry b bytes → a ≡ b
   source_one bytes a b x y = core_one bytes a b x.has_core y.has_core
 
-  source_apart : (bytes : List ℕ) (a : Circuit) (fault : Fault) → IsSource a bytes → ¬ IsFaultySource fault bytes
+  source_apart : (bytes : List ℕ) (a : Circuit) (fault : Fault) → IsSource asked_width asked_entry a bytes
+      → ¬ IsFaultySource asked_width asked_entry fault bytes
   source_apart bytes a _ x (syntax _ at h) = no_fault bytes x.has_core.file (read.Syntax at) x.has_core.spelled h
   source_apart bytes a _ x (too_deep _ at h) = no_fault bytes x.has_core.file (read.TooDeep at) x.has_core.spelled h
   source_apart bytes a _ x (number_too_big _ at h) = no_fault bytes x.has_core.file (read.NumberTooBig at) x.has_core.spelled h
   source_apart bytes a _ x (not_judged _ file kind at spelled has) =
       let same : x.has_core.file ≡ file = one_file bytes x.has_core.file file x.has_core.spelled spelled in
       let wrong : JudgedFault = record { kind = kind; place = at } in
-      no_judged_fault x.has_core.file wrong x.has_core.judged.no_fault (subst (λ (f : File). fault_of None None f ≡ Some wrong) (sym same) has)
+      no_judged_fault asked_width asked_entry x.has_core.file wrong x.has_core.judged.no_fault
+      (subst (λ (f : File). fault_of asked_width asked_entry f ≡ Some wrong) (sym same) has)
   source_apart bytes a fault x (past_limit _ core _ has passes) =
       limit_apart a fault (subst (λ (c : Circuit). PassesLimit c fault) (core_one bytes core a has x.has_core) passes) x.small x.few_columns
 
+module _ (one_file : (bytes : List ℕ) (first second : File) → SpellsFile bytes first → SpellsFile bytes second → first ≡ second)
+    (no_fault : (bytes : List ℕ) (file : File) (fault : SourceFault) → SpellsFile bytes file → ¬ HasFault bytes fault)
+    (written_is_read : WrittenIsRead) where
+  -- a file has one core, and none where it has a fault
+  held_one : (b : Basis) (bytes : List ℕ) (x y : Circuit) → bases.Holds b x bytes → bases.Holds b y bytes → x ≡ y
+  held_one (basis.Source width entry) = source_one one_file no_fault width entry
+  held_one basis.CoreText = text_one written_is_read
+
+  held_apart : (b : Basis) (bytes : List ℕ) (x : Circuit) (fault : Fault) → bases.Holds b x bytes → ¬ bases.IsFaulty b fault bytes
+  held_apart (basis.Source width entry) = source_apart one_file no_fault width entry
+  held_apart basis.CoreText = text_apart written_is_read
+
   -- all outcomes of an order but refused fetches have one status
   pub order_one : (file : List ℕ → Option (List ℕ)) (o : Order) → HaveOneStatus (OrderEnds (Some file) o)
-  order_one file (order.Core name) = after_one file name exit.Source _ _ _ source_one source_apart (λ core. done_one (core_text core))
-  order_one file (order.Rows name) = after_one file name exit.Source _ _ _ source_one source_apart (λ core. done_one (rows_text (core_view core)))
-  order_one file (order.Check name) = after_one file name exit.Source _ _ _ source_one source_apart verdict_one
-  order_one file (order.Verify name attack) =
-      after_one file name exit.Source _ _ _ source_one source_apart
+  order_one file (order.Core name b) = after_one file name exit.Source _ _ _ (held_one b) (held_apart b) (λ core. done_one (core_text core))
+  order_one file (order.Rows name b) = after_one file name exit.Source _ _ _ (held_one b) (held_apart b) (λ core. done_one (rows_text (core_view core)))
+  order_one file (order.Check name b) = after_one file name exit.Source _ _ _ (held_one b) (held_apart b) verdict_one
+  order_one file (order.Verify name attack b) =
+      after_one file name exit.Source _ _ _ (held_one b) (held_apart b)
       (λ core. after_one file attack exit.Values _ _ _ (attack_one (core_view core)) (attack_apart (core_view core)) (confirmation_one core))
+  order_one file (order.Eval name values b) = λ end other s t x y hs ht. absurd x
+  order_one file (order.Repair name b) = λ end other s t x y hs ht. absurd x
+  order_one file (order.Compile name word b) = λ end other s t x y hs ht. absurd x
+  order_one file (order.Run cfile values) = λ end other s t x y hs ht. absurd x
+  order_one file (order.Trial name shares seed b) = λ end other s t x y hs ht. absurd x
+  order_one file (order.Gen seed size) = λ end other s t x y hs ht. absurd x

@@ -3,5 +3,8 @@ pub mod StepLemmas
 pub mod EndingLemmas
 pub mod CoverageLemmas
 pub mod RefusedLemmas
+pub mod CoreTextLemmas
+pub mod AnsweringLemmas
+pub mod SourceLemmas
 pub mod RunLemmas
 pub mod VerdictLemmas

@@ -16,7 +16,7 @@ use Rattle.tornado_main.specs.declared.refusal.Refusal.{Refusal}
 use Rattle.tornado_main.specs.declared.refusal.Refusal.TheVariants as refusal
 use Rattle.tornado_main.specs.declared.status.Status.{Status}
 use Rattle.tornado_main.specs.declared.status.Status.TheVariants as exit
-use Rattle.tornado_main.specs.declared.words.Order.{Order}
+use Rattle.tornado_words.specs.declared.order.Order.{Order}
 use Rattle.tornado_main.proofs.CoverageLemmas.{order_fits}
 
 -- the words have one order
@@ -35,9 +35,8 @@ module _ {F O E : Type 0} {faults too_long : F → ℕ} {last_refused : F → Op
       → (s ≢ exit.Unread → NoneRefused faults too_long last_refused files_old files_new) → contents files_new ≡ contents files_old
       → IsRun faults too_long last_refused fetched out_faults out_written err_faults err_written contents words files_old files_new out_old out_new err_old err_new s
   with_order o s asked not_usage shows fetches none_refused stay = record {
-    usage = ((λ e. absurd (not_usage e)), (λ none. let here : None ≡ Some o = sym none ∙ asked in absurd (cc)));
-    usage_told = λ e. absurd (not_usage e);
-    usage_alone = λ e. absurd (not_usage e);
+    usage = λ e. absurd (not_usage e);
+    without_order = λ none. let here : None ≡ Some o = sym none ∙ asked in absurd (cc);
     ends = λ other h.
         let same : o ≡ other = one_order (order_of words) o other asked h in
         subst
@@ -109,9 +108,8 @@ module _ {F O E : Type 0} {faults too_long : F → ℕ} {last_refused : F → Op
   pub run_without_order : order_of words ≡ None → Sent err_faults err_written err_old err_new (run_message complaint.BadCommandLine)
       → IsRun faults too_long last_refused fetched out_faults out_written err_faults err_written contents words files files out out err_old err_new exit.Usage
   run_without_order none told = record {
-    usage = ((λ e. none), (λ h. refl));
-    usage_told = λ e. told;
-    usage_alone = λ e. (refl, refl);
+    usage = λ e. none;
+    without_order = λ h. record { ends = inl (refl, told); files_alone = refl; output_alone = refl };
     ends = λ order h. let here : None ≡ Some order = sym none ∙ h in absurd (cc);
     fetches = λ order h. let here : None ≡ Some order = sym none ∙ h in absurd (cc);
     none_refused = λ e. record { faults_stay = refl; too_long_stays = refl; refused_stays = refl };
@@ -119,13 +117,12 @@ module _ {F O E : Type 0} {faults too_long : F → ℕ} {last_refused : F → Op
   }
 
   -- memory was wanting before there was an order, and that was told
-  pub run_without_memory : (s : Status) → s ≡ exit.Memory → order_of words ≢ None → Sent err_faults err_written err_old err_new (run_message complaint.OutOfMemory)
+  pub run_without_memory : (s : Status) → s ≡ exit.Memory → Sent err_faults err_written err_old err_new (run_message complaint.OutOfMemory)
       → IsRun faults too_long last_refused fetched out_faults out_written err_faults err_written contents words files files out out err_old err_new s
-  run_without_memory s is some told =
+  run_without_memory s is told =
       subst (λ (k : Status). IsRun faults too_long last_refused fetched out_faults out_written err_faults err_written contents words files files out out err_old err_new k) (sym is) (record {
-        usage = ((λ e. absurd (cc)), (λ none. absurd (some none)));
-        usage_told = λ e. absurd (cc);
-        usage_alone = λ e. absurd (cc);
+        usage = λ e. absurd (cc);
+        without_order = λ none. record { ends = inr (refl, told); files_alone = refl; output_alone = refl };
         ends = λ order h. (told, refl);
         fetches = λ order h. record { taken = []; left = files_of order; in_order = refl; fetched = sym (append-nil (fetched files)) };
         none_refused = λ e. record { faults_stay = refl; too_long_stays = refl; refused_stays = refl };

@@ -16,11 +16,12 @@ use Rattle.attack_cert.specs.Derivation.{IsDerivation}
 use Rattle.attack_text.specs.AttackText.{attack_text}
 use Rattle.tornado_main.specs.Ending.{Stops, Nowhere}
 use Rattle.tornado_main.specs.Files.{Contents, FileIs}
-use Rattle.tornado_main.specs.Source.{IsSource, IsFaultySource}
+use Rattle.tornado_main.specs.Bases as bases
 use Rattle.tornado_main.specs.Steps.{AfterFile}
 use Rattle.tornado_main.specs.Outcome.{Outcome, answers}
 use Rattle.tornado_main.specs.commands.Check.{IsVerdict, IsAttackOfLeak, found}
 use Rattle.tornado_main.specs.commands.Verify.{IsConfirmation, SpellsAttack, IsFaultyAttack, VerifyEnds, holds, fails}
+use Rattle.tornado_words.specs.declared.order.Basis.{Basis}
 use Rattle.tornado_main.specs.declared.refusal.Refusal.{Refusal}
 use Rattle.tornado_main.specs.declared.status.Status.TheVariants.{Done, Found, Source, Values}
 use Rattle.tornado_main.proofs.StepLemmas.{stops_anyway, stops_later, goes_on_with}
@@ -89,21 +90,21 @@ pub some_case : (T : Type 0) (o : Option T) (P : Type 0) (Q : T → Type 0) (x :
 some_case T o P Q x is = subst (λ (k : Option T). MatchOption k P Q → Q x) (sym is) (λ h. h)
 
 -- an order that stops at its attack stops
-pub verify_stops : (contents later : Contents) → later ≡ contents → (file attack : List ℕ) (core : Circuit) (view : LinearView) → view ≡ core_view core
-    → FileIs contents file (IsSource core) → (e : Refusal) → Stops (AfterFile later attack Values (SpellsAttack view) (IsFaultyAttack view) Nowhere) e
-    → Stops (VerifyEnds contents file attack) e
-verify_stops contents later same file attack core view is source e stops =
+pub verify_stops : (contents later : Contents) → later ≡ contents → (file attack : List ℕ) (basis : Basis) (core : Circuit) (view : LinearView) → view ≡ core_view core
+    → FileIs contents file (bases.Holds basis core) → (e : Refusal) → Stops (AfterFile later attack Values (SpellsAttack view) (IsFaultyAttack view) Nowhere) e
+    → Stops (VerifyEnds contents file attack basis) e
+verify_stops contents later same file attack basis core view is source e stops =
     let P : Contents → Type 0 = λ k. Stops (AfterFile k attack Values (SpellsAttack view) (IsFaultyAttack view) Nowhere) e in
     let Q : LinearView → Type 0 = λ v. Stops (AfterFile contents attack Values (SpellsAttack v) (IsFaultyAttack v) Nowhere) e in
-    stops_later contents file Source IsSource IsFaultySource _ core e source
+    stops_later contents file Source (bases.Holds basis) (bases.IsFaulty basis) _ core e source
     (stops_anyway contents attack Values (SpellsAttack (core_view core)) (IsFaultyAttack (core_view core)) (IsConfirmation core) e (subst Q is (subst P same stops)))
 
 -- how an order may end that reads its attack
-pub verify_may : (contents later : Contents) → later ≡ contents → (file attack : List ℕ) (core : Circuit) (view : LinearView) → view ≡ core_view core
-    → FileIs contents file (IsSource core) → (a : Attack) → FileIs later attack (SpellsAttack view a) → (end : Outcome) → IsConfirmation core a end
-    → VerifyEnds contents file attack end
-verify_may contents later same file attack core view is source a spelled end confirms =
+pub verify_may : (contents later : Contents) → later ≡ contents → (file attack : List ℕ) (basis : Basis) (core : Circuit) (view : LinearView) → view ≡ core_view core
+    → FileIs contents file (bases.Holds basis core) → (a : Attack) → FileIs later attack (SpellsAttack view a) → (end : Outcome) → IsConfirmation core a end
+    → VerifyEnds contents file attack basis end
+verify_may contents later same file attack basis core view is source a spelled end confirms =
     let P : Contents → Type 0 = λ k. FileIs k attack (SpellsAttack view a) in
     let Q : LinearView → Type 0 = λ v. FileIs contents attack (SpellsAttack v a) in
-    goes_on_with contents file Source IsSource IsFaultySource _ core end source
+    goes_on_with contents file Source (bases.Holds basis) (bases.IsFaulty basis) _ core end source
     (goes_on_with contents attack Values (SpellsAttack (core_view core)) (IsFaultyAttack (core_view core)) (IsConfirmation core) a end (subst Q is (subst P same spelled)) confirms)

@@ -1,11 +1,16 @@
 -- What the outcomes of an order have in common.
 use Rattle.std.specs.Prelude.{◌≡◌, ◌⊎◌, ℕ, List, Option, Some}
+use Rattle.usuba0.specs.Circuit.{Circuit}
+use Rattle.tornado_words.specs.Ranges.{HasFitWidth}
+use Rattle.tornado_words.specs.declared.order.Basis.{Basis}
+use Rattle.tornado_main.specs.Bases.{Holds, IsFaulty}
 use Rattle.tornado_main.specs.Files.{Contents}
 use Rattle.tornado_main.specs.Orders.{OrderEnds}
 use Rattle.tornado_main.specs.Outcome.{Outcome, answers, refused, unread}
+use Rattle.tornado_main.specs.declared.message.Fault.{Fault}
 use Rattle.tornado_main.specs.declared.status.Status.{Status}
 use Rattle.tornado_main.specs.declared.status.Status.TheVariants.{Done, Found, Source, Values}
-use Rattle.tornado_main.specs.declared.words.Order.{Order}
+use Rattle.tornado_words.specs.declared.order.Order.{Order}
 
 -- the outcome is an answer with this status or a refusal of a file with it, and no refused fetch
 abbrev pub HasStatus : Status → Outcome → Type 0
@@ -26,3 +31,8 @@ pub record OutcomesAgree : Type 0 where
       → OrderEnds (Some file) order end → OrderEnds (Some file) order other → HasStatus status end → HasStatus another other → status ≡ another
   -- answers have the status 0 or 1, and refusals of files 3 or 7
   pub statuses : (contents : Contents) (order : Order) (end : Outcome) → OrderEnds contents order end → FitsOutcome end
+
+-- all bytes have a core within both limits or a fault, whatever they are read as
+abbrev pub CoreOrFault : Type 0
+CoreOrFault = (basis : Basis) → HasFitWidth basis → (bytes : List ℕ)
+    → ((core : Circuit) × Holds basis core bytes) ⊎ ((fault : Fault) × IsFaulty basis fault bytes)

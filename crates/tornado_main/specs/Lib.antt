@@ -4,6 +4,8 @@ pub mod Message
 pub mod Files
 pub mod Fetching
 pub mod Source
+pub mod CoreText
+pub mod Bases
 pub mod Outcome
 pub mod Steps
 pub mod commands

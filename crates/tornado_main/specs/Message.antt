@@ -43,6 +43,7 @@ complaint_text complaint.NumberTooBig = codes "number too big"
 complaint_text (complaint.Judged kind) = kind_text kind
 complaint_text complaint.CoreTooLarge = codes "core too large"
 complaint_text complaint.ColumnsTooMany = codes "too many columns"
+complaint_text complaint.LimitPassed = codes "limit passed"
 complaint_text complaint.OutOfRange = codes "out of range"
 complaint_text complaint.OtherCore = codes "another core"
 

@@ -5,12 +5,13 @@ use Rattle.tornado_main.specs.commands.Core.{CoreEnds}
 use Rattle.tornado_main.specs.commands.Rows.{RowsEnds}
 use Rattle.tornado_main.specs.commands.Check.{CheckEnds}
 use Rattle.tornado_main.specs.commands.Verify.{VerifyEnds}
-use Rattle.tornado_main.specs.declared.words.Order.{Order}
-use Rattle.tornado_main.specs.declared.words.Order.TheVariants as order
+use Rattle.tornado_words.specs.declared.order.Order.{Order}
+use Rattle.tornado_words.specs.declared.order.Order.TheVariants as order
 
--- an order may end so on files of these contents
+-- an order may end so on files of these contents; one whose command is not built is carried out in no way
 abbrev pub OrderEnds : Contents → Order → Outcome → Type 0
-OrderEnds contents (order.Core file) = CoreEnds contents file
-OrderEnds contents (order.Rows file) = RowsEnds contents file
-OrderEnds contents (order.Check file) = CheckEnds contents file
-OrderEnds contents (order.Verify file attack) = VerifyEnds contents file attack
+OrderEnds contents (order.Core file basis) = CoreEnds contents file basis
+OrderEnds contents (order.Rows file basis) = RowsEnds contents file basis
+OrderEnds contents (order.Check file basis) = CheckEnds contents file basis
+OrderEnds contents (order.Verify file attack basis) = VerifyEnds contents file attack basis
+OrderEnds contents _ = λ end. ⊥

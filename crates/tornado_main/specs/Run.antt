@@ -1,5 +1,5 @@
 -- What a run of the program does.
-use Rattle.std.specs.Prelude.{◌≡◌, ◌≢◌, ◌↔◌, ℕ, List, Option, None, Some, Result}
+use Rattle.std.specs.Prelude.{◌≡◌, ◌≢◌, ◌⊎◌, ℕ, List, Option, None, Some, Result}
 use Rattle.tor_edge.specs.Count.{Rose}
 use Rattle.tor_edge.specs.Written.{appended, AppendsPrefix, Wrote}
 use Rattle.tor_edge.specs.declared.files.Reason.{Reason}
@@ -15,7 +15,7 @@ use Rattle.tornado_main.specs.declared.message.Complaint.TheVariants as complain
 use Rattle.tornado_main.specs.declared.message.Fault.{Fault}
 use Rattle.tornado_main.specs.declared.status.Status.{Status}
 use Rattle.tornado_main.specs.declared.status.Status.TheVariants.{Done, Found, Usage, Source, Unread, Unwritten, Memory, Values}
-use Rattle.tornado_main.specs.declared.words.Order.{Order}
+use Rattle.tornado_words.specs.declared.order.Order.{Order}
 
 -- the sink was sent a text and nothing else: it got a prefix of it, and all of it where its count of faults didn't rise
 abbrev pub Sent : {S : Type 0} → (S → ℕ) → (S → Option (List ℕ)) → S → S → List ℕ → Type 0
@@ -73,14 +73,21 @@ module _ {F O E : Type 0} (faults too_long : F → ℕ) (last_refused : F → Op
   Shows May files_old files_new out_old out_new err_old err_new Values =
       ToldFault May Values (Sent err_faults err_written err_old err_new) × (out_new ≡ out_old)
 
+  -- a run on words that are no order: it is told that they are none, or that memory was wanting to read them, and neither files
+  -- nor output were touched
+  pub record EndsWithoutOrder (files_old files_new : F) (out_old out_new : O) (err_old err_new : E) (status : Status) : Type 0 where
+    pub ends : ((status ≡ Usage) × Sent err_faults err_written err_old err_new (run_message complaint.BadCommandLine))
+        ⊎ ((status ≡ Memory) × Sent err_faults err_written err_old err_new (run_message complaint.OutOfMemory))
+    pub files_alone : files_new ≡ files_old
+    pub output_alone : out_new ≡ out_old
+
   -- what a run on these words did, which are those after the program's name, by its status
   pub record IsRun (contents : F → Contents) (words : List (List ℕ)) (files_old files_new : F) (out_old out_new : O) (err_old err_new : E)
       (status : Status) : Type 0 where
-    -- it is the status of a bad command line exactly where the words are no order
-    pub usage : (status ≡ Usage) ↔ (order_of words ≡ None)
-    -- then that was told, and neither files nor output were touched
-    pub usage_told : status ≡ Usage → Sent err_faults err_written err_old err_new (run_message complaint.BadCommandLine)
-    pub usage_alone : status ≡ Usage → (files_new ≡ files_old) × (out_new ≡ out_old)
+    -- it is the status of a bad command line only where the words are no order
+    pub usage : status ≡ Usage → order_of words ≡ None
+    -- then that was told, but for want of memory
+    pub without_order : order_of words ≡ None → EndsWithoutOrder files_old files_new out_old out_new err_old err_new status
     -- an order ends as it may
     pub ends : (order : Order) → order_of words ≡ Some order
         → Shows (OrderEnds (contents files_old) order) files_old files_new out_old out_new err_old err_new status

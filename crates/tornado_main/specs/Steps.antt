@@ -5,7 +5,8 @@ use Rattle.tor_edge.specs.declared.files.Reason.{Reason}
 use Rattle.usuba0.specs.Circuit.{Circuit}
 use Rattle.tornado_main.specs.Files.{Contents, IsFetched, MayRefuse}
 use Rattle.tornado_main.specs.Outcome.{Outcome, refused, unread}
-use Rattle.tornado_main.specs.Source.{IsSource, IsFaultySource}
+use Rattle.tornado_main.specs.Bases as bases
+use Rattle.tornado_words.specs.declared.order.Basis.{Basis}
 use Rattle.tornado_main.specs.declared.message.Fault.{Fault}
 use Rattle.tornado_main.specs.declared.status.Status.{Status}
 use Rattle.tornado_main.specs.declared.status.Status.TheVariants as status
@@ -24,6 +25,6 @@ pub data AfterFile {A : Type 0} (contents : Contents) (name : List ℕ) (at_faul
   goes_on : (bytes : List ℕ) (held : A) (end : Outcome) → IsFetched contents name bytes → Holds held bytes
       → Next held end → AfterFile contents name at_fault Holds IsFaulty Next end
 
--- an order may end so that fetches the source of this name first, and goes on with its core
-abbrev pub AfterSource : Contents → (name : List ℕ) → (Circuit → Outcome → Type 0) → Outcome → Type 0
-AfterSource contents name Next = AfterFile contents name status.Source IsSource IsFaultySource Next
+-- an order may end so that fetches the file of this name first, and goes on with its core
+abbrev pub AfterCore : Contents → (name : List ℕ) → Basis → (Circuit → Outcome → Type 0) → Outcome → Type 0
+AfterCore contents name basis Next = AfterFile contents name status.Source (bases.Holds basis) (bases.IsFaulty basis) Next

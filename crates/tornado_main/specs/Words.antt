@@ -1,36 +1,36 @@
 -- What the words of the command line ask for, each word as its bytes.
-use Rattle.std.specs.Prelude.{ℕ, Bool, not, ◌&&◌, ◌||◌, ◌==◌, if◌then◌else◌, List, [], ◌∷◌, slice_index, codes, Option, Some, None}
-use Rattle.std.specs.Str.{bytes_eq}
-use Rattle.tornado_main.specs.declared.words.Order.{Order}
-use Rattle.tornado_main.specs.declared.words.Order.TheVariants as order
+use Rattle.std.specs.Prelude.{ℕ, Bool, true, false, if◌then◌else◌, List, [], ◌∷◌, Option, Some, None, option_and_then}
+use Rattle.tornado_words.specs.Orders as orders
+use Rattle.tornado_words.specs.declared.order.Order.{Order}
+use Rattle.tornado_words.specs.declared.order.Order.TheVariants as order
 
--- a word that names a file: it is not empty, and begins with `-` only where it is `-` alone
-abbrev pub is_file_name : List ℕ → Bool
-is_file_name word = not (bytes_eq word []) && (bytes_eq word (codes "-") || not (slice_index word 0 == 45))
+-- the command of an order is built
+abbrev pub is_built : Order → Bool
+is_built (order.Eval file values basis) = false
+is_built (order.Repair file basis) = false
+is_built (order.Compile file word basis) = false
+is_built (order.Run cfile values) = false
+is_built (order.Trial file shares seed basis) = false
+is_built (order.Gen seed size) = false
+is_built _ = true
 
--- the order of a command on one file: `core FILE`, `rows FILE` or `check FILE`
-abbrev pub order_on_file : List ℕ → List ℕ → Option Order
-order_on_file command file =
-    if not (is_file_name file) then None
-    else if bytes_eq command (codes "core") then Some (order.Core file)
-    else if bytes_eq command (codes "rows") then Some (order.Rows file)
-    else if bytes_eq command (codes "check") then Some (order.Check file)
-    else None
+-- an order whose command is built
+abbrev pub built : Order → Option Order
+built asked = if is_built asked then Some asked else None
 
--- the order of a command on two files: `verify FILE ATTACK`
-abbrev pub order_on_files : List ℕ → List ℕ → List ℕ → Option Order
-order_on_files command file attack =
-    if bytes_eq command (codes "verify") && is_file_name file && is_file_name attack then Some (order.Verify file attack) else None
-
--- the order of the words; none where they are no order
+-- the order of the words; none where they are no order, or its command is not built
 abbrev pub order_of : List (List ℕ) → Option Order
-order_of (command ∷ file ∷ []) = order_on_file command file
-order_of (command ∷ file ∷ attack ∷ []) = order_on_files command file attack
-order_of _ = None
+order_of words = option_and_then built (orders.order_of words)
 
 -- the files that an order names, in the order in which they are fetched
 abbrev pub files_of : Order → List (List ℕ)
-files_of (order.Core file) = file ∷ []
-files_of (order.Rows file) = file ∷ []
-files_of (order.Check file) = file ∷ []
-files_of (order.Verify file attack) = file ∷ attack ∷ []
+files_of (order.Core file basis) = file ∷ []
+files_of (order.Eval file values basis) = file ∷ values ∷ []
+files_of (order.Rows file basis) = file ∷ []
+files_of (order.Check file basis) = file ∷ []
+files_of (order.Verify file attack basis) = file ∷ attack ∷ []
+files_of (order.Repair file basis) = file ∷ []
+files_of (order.Compile file word basis) = file ∷ []
+files_of (order.Run cfile values) = cfile ∷ values ∷ []
+files_of (order.Trial file shares seed basis) = file ∷ []
+files_of (order.Gen seed size) = []

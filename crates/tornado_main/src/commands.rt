@@ -2,7 +2,9 @@
 
 ghost use Rattle.tornado_main.specs.Ending.{Ends};
 ghost use Rattle.tornado_main.specs.Orders.{OrderEnds};
-ghost use Rattle.tornado_main.specs.Words.{files_of};
+ghost use Rattle.std.specs.Prelude.{◌≡◌, true};
+ghost use Rattle.tornado_words.specs.Ranges.{IsInRange};
+ghost use Rattle.tornado_main.specs.Words.{is_built, files_of};
 
 mod check;
 mod print_core;
@@ -11,9 +13,9 @@ mod verify;
 
 use crate::refusal::Refusal;
 use crate::status::Status;
-use crate::words::Order;
 use std::alloc::Global;
 use tor_edge::{Files, Sink};
+use tornado_words::Order;
 
 /// Carries out an order: all of its work is done before the first byte of its answer is written.
 pub fn carry_out<'a, F: Files, O: Sink>(
@@ -22,15 +24,32 @@ pub fn carry_out<'a, F: Files, O: Sink>(
     files: &mut F,
     out: &mut O,
 ) -> Result<Status, Refusal<'a>>
+    requires built { is_built order.now ≡ true }
+    requires range { IsInRange order.now }
     ensures { Ends F.faults F.too_long F.refused F.fetched F.contents O.faults O.written (files_of order.now) (OrderEnds (F.contents files.old) order.now)
         files.old files.new out.old out.new result }
 {
     match order {
-        Order::Core { file } => print_core::print_core(alloc, file.as_str(), files, out),
-        Order::Rows { file } => print_rows::print_rows(alloc, file.as_str(), files, out),
-        Order::Check { file } => check::check(alloc, file.as_str(), files, out),
-        Order::Verify { file, attack } => {
-            verify::verify(alloc, file.as_str(), attack.as_str(), files, out)
-        }
+        Order::Core { file, basis } => print_core::print_core(
+            alloc,
+            file.as_str(),
+            basis,
+            files,
+            out,
+        ),
+        Order::Rows { file, basis } => print_rows::print_rows(
+            alloc,
+            file.as_str(),
+            basis,
+            files,
+            out,
+        ),
+        Order::Check { file, basis } => check::check(alloc, file.as_str(), basis, files, out),
+        Order::Verify {
+            file,
+            attack,
+            basis,
+        } => verify::verify(alloc, file.as_str(), attack.as_str(), basis, files, out),
+        _ => unreachable!(),
     }
 }

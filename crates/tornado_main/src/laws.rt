@@ -1,10 +1,27 @@
-ghost use Rattle.tornado_main.specs.Coverage.{OutcomesAgree};
+ghost use Rattle.tornado_main.specs.Coverage.{CoreOrFault, OutcomesAgree};
 
-use usuba_syntax::one_source;
+use core_text::{core_or_fault, read_is_written, written_is_read};
+use source_shapes::judged_takes_and_gives;
+use source_terms::meanings_agree;
+use usuba_model::judged_or_faulty;
+use usuba_syntax::{file_or_fault, one_source};
 
 /// Where the contents of files are told, they alone decide the status of an order.
 pub fn outcomes_agree()
     ensures { OutcomesAgree }
 {
     one_source();
+    written_is_read();
+}
+
+/// All bytes have a core within both limits or a fault, whatever they are read as.
+pub fn file_has_core_or_fault()
+    ensures { CoreOrFault }
+{
+    file_or_fault();
+    judged_or_faulty();
+    judged_takes_and_gives();
+    meanings_agree();
+    core_or_fault();
+    read_is_written();
 }

@@ -3,16 +3,19 @@
 
 mod answer;
 mod commands;
+mod core_texts;
+mod cores;
 mod fetch;
 mod laws;
 mod message;
 mod process;
 mod program;
 mod refusal;
+mod sources;
 mod status;
 mod words;
 
-pub use laws::outcomes_agree;
+pub use laws::{file_has_core_or_fault, outcomes_agree};
 pub use process::run;
 pub use program::tornado;
 pub use status::Status;

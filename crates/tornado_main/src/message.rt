@@ -20,6 +20,7 @@ pub enum Complaint {
     Judged(FaultKind),
     CoreTooLarge,
     ColumnsTooMany,
+    LimitPassed,
     OutOfRange,
     OtherCore,
 }
@@ -60,6 +61,7 @@ impl Complaint {
             Complaint::Judged(kind) => kind_text(kind),
             Complaint::CoreTooLarge => "core too large",
             Complaint::ColumnsTooMany => "too many columns",
+            Complaint::LimitPassed => "limit passed",
             Complaint::OutOfRange => "out of range",
             Complaint::OtherCore => "another core",
         }

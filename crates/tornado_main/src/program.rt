@@ -5,9 +5,10 @@ use crate::commands::carry_out;
 use crate::message::{Complaint, write_complaint};
 use crate::refusal::Refusal;
 use crate::status::Status;
-use crate::words::{WordFault, order_of};
+use crate::words::order_of;
 use std::alloc::Global;
 use tor_edge::{Files, Sink};
+use tornado_words::WordFault;
 
 /// Carries out the order of the words, which are those after the program's name.
 ///

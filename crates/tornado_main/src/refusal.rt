@@ -8,7 +8,7 @@ ghost use Rattle.tornado_main.specs.declared.refusal.Refusal.TheVariants.{Memory
 use crate::message::{Complaint, Fault, Spot, write_complaint, write_fault};
 use crate::status::Status;
 use std::alloc::AllocError;
-use tor_edge::{PutFault, Reason, Sink};
+use tor_edge::{Place, PutFault, Reason, Sink};
 
 /// Why an order ends without its whole answer. A file's name stands beside what is wrong with it.
 #[derive(Debug, Clone, Copy)]
@@ -84,4 +84,37 @@ fn unread_fault(why: Reason) -> Fault
         at: Spot::Whole,
         what,
     }
+}
+
+/// The refusal of a file for what is wrong at a place.
+pub fn faulty_place<'a>(status: Status, name: &'a str, at: Place, what: Complaint) -> Refusal<'a>
+    ensures { result ≡ Refusal.Faulty status name.entry (record { at = Spot.Place at; what = what }) }
+{
+    let fault = Fault {
+        at: Spot::Place(at),
+        what,
+    };
+    Refusal::Faulty(status, name, fault)
+}
+
+/// The refusal of a file for what is wrong at a line.
+pub fn faulty_line<'a>(status: Status, name: &'a str, line: u64, what: Complaint) -> Refusal<'a>
+    ensures { result ≡ Refusal.Faulty status name.entry (record { at = Spot.Line line; what = what }) }
+{
+    let fault = Fault {
+        at: Spot::Line(line),
+        what,
+    };
+    Refusal::Faulty(status, name, fault)
+}
+
+/// The refusal of a file for what is wrong with it as a whole.
+pub fn faulty_file<'a>(status: Status, name: &'a str, what: Complaint) -> Refusal<'a>
+    ensures { result ≡ Refusal.Faulty status name.entry (record { at = Spot.Whole; what = what }) }
+{
+    let fault = Fault {
+        at: Spot::Whole,
+        what,
+    };
+    Refusal::Faulty(status, name, fault)
 }

@@ -12,9 +12,10 @@ use Rattle.attack_text.specs.AttackText.{attack_text}
 use Rattle.attack_probes.specs.Unfolding.{unfolding_of}
 use Rattle.attack_probes.specs.Listings.{Lists}
 use Rattle.attack_cert.specs.Derivation.{IsDerivation}
+use Rattle.tornado_words.specs.declared.order.Basis.{Basis}
 use Rattle.tornado_main.specs.Files.{Contents}
 use Rattle.tornado_main.specs.Outcome.{Outcome, answers}
-use Rattle.tornado_main.specs.Steps.{AfterSource}
+use Rattle.tornado_main.specs.Steps.{AfterCore}
 use Rattle.tornado_main.specs.declared.status.Status.TheVariants as status
 
 -- The attack is that of its leak, a set of the core's columns: it has the leak's derivation, and the unfolding of this, which
@@ -33,5 +34,5 @@ pub data IsVerdict (core : Circuit) : Outcome → Type 0 where
       → IsVerdict core (answers (attack_text (core_view core) attack) status.Found)
 
 -- it prints the verdict
-abbrev pub CheckEnds : Contents → (file : List ℕ) → Outcome → Type 0
-CheckEnds contents file = AfterSource contents file IsVerdict
+abbrev pub CheckEnds : Contents → (file : List ℕ) → Basis → Outcome → Type 0
+CheckEnds contents file basis = AfterCore contents file basis IsVerdict

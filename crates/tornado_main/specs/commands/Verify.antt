@@ -9,9 +9,10 @@ use Rattle.attack_model.specs.declared.attack.Attack.{Attack}
 use Rattle.attack_text.specs.declared.read.CertFault.TheVariants as cert
 use Rattle.attack_text.specs.Reading.{attack_of}
 use Rattle.attack_probes.specs.Listings.{Holds}
+use Rattle.tornado_words.specs.declared.order.Basis.{Basis}
 use Rattle.tornado_main.specs.Files.{Contents}
 use Rattle.tornado_main.specs.Outcome.{Outcome, answers}
-use Rattle.tornado_main.specs.Steps.{AfterFile, AfterSource}
+use Rattle.tornado_main.specs.Steps.{AfterFile, AfterCore}
 use Rattle.tornado_main.specs.declared.message.Complaint.TheVariants as complaint
 use Rattle.tornado_main.specs.declared.message.Spot.TheVariants as spot
 use Rattle.tornado_main.specs.declared.message.Fault.{Fault}
@@ -37,7 +38,7 @@ pub data IsConfirmation (core : Circuit) (attack : Attack) : Outcome → Type 0 
   fails : ¬ Holds (core_view core) attack → IsConfirmation core attack (answers (codes "no attack\n") status.Found)
 
 -- it reads the attack of the other file, and prints whether it holds on the core
-abbrev pub VerifyEnds : Contents → (file attack : List ℕ) → Outcome → Type 0
-VerifyEnds contents file attack =
-    AfterSource contents file (λ core.
+abbrev pub VerifyEnds : Contents → (file attack : List ℕ) → Basis → Outcome → Type 0
+VerifyEnds contents file attack basis =
+    AfterCore contents file basis (λ core.
     AfterFile contents attack status.Values (SpellsAttack (core_view core)) (IsFaultyAttack (core_view core)) (IsConfirmation core))

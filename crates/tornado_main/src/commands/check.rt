@@ -7,11 +7,12 @@ ghost use Rattle.usuba0.specs.Circuit.{Circuit, IsCore, IsSmall, HasFewColumns};
 ghost use Rattle.linear_view.specs.View.{products_of};
 ghost use Rattle.linear_view.specs.Rows.{core_products, core_view};
 ghost use Rattle.attack_text.specs.AttackText.{attack_text};
+ghost use Rattle.tornado_words.specs.Ranges.{HasFitWidth};
 ghost use Rattle.tornado_main.specs.Ending.{Ends};
 ghost use Rattle.tornado_main.specs.commands.Check.{CheckEnds, IsAttackOfLeak};
 
 use crate::answer::{Answer, Line, send};
-use crate::fetch::core_of_file;
+use crate::cores::core_of_file;
 use crate::refusal::Refusal;
 use crate::status::Status;
 use attack_cert::derive;
@@ -23,19 +24,22 @@ use linear_view::{View, attacks_are_the_views, view_of};
 use std::alloc::{AllocError, Global};
 use tightprove::{Verdict, search};
 use tor_edge::{Files, PutFault, Sink};
+use tornado_words::Basis;
 use usuba0::Core;
 
 /// Prints whether the core has an attack, and one that it has.
 pub fn check<'a, F: Files, O: Sink>(
     alloc: Global,
     file: &'a str,
+    basis: &Basis,
     files: &mut F,
     out: &mut O,
 ) -> Result<Status, Refusal<'a>>
-    ensures { Ends F.faults F.too_long F.refused F.fetched F.contents O.faults O.written (file.now ∷ []) (CheckEnds (F.contents files.old) file.now)
+    requires { HasFitWidth basis.now }
+    ensures { Ends F.faults F.too_long F.refused F.fetched F.contents O.faults O.written (file.now ∷ []) (CheckEnds (F.contents files.old) file.now basis.now)
         files.old files.new out.old out.new result }
 {
-    let core = core_of_file(alloc, file, files)?;
+    let core = core_of_file(alloc, file, basis, files)?;
     match attack_on(alloc, &core)? {
         None => {
             send(&Line("secure\n"), out)?;

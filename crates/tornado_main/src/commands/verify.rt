@@ -5,6 +5,7 @@ ghost use Rattle.tor_edge.specs.declared.files.TheConstants.{MAX_FILE_BYTES};
 ghost use Rattle.usuba0.specs.Circuit.{Circuit, IsCore};
 ghost use Rattle.linear_view.specs.Rows.{core_view};
 ghost use Rattle.attack_model.specs.Ranges.{InRange};
+ghost use Rattle.tornado_words.specs.Ranges.{HasFitWidth};
 ghost use Rattle.tornado_main.specs.Ending.{Ends, Fetched, Stops, IsRefusedFor, Nowhere};
 ghost use Rattle.tornado_main.specs.Files.{FileIs};
 ghost use Rattle.tornado_main.specs.Steps.{AfterFile};
@@ -12,9 +13,10 @@ ghost use Rattle.tornado_main.specs.commands.Verify.{VerifyEnds, SpellsAttack, I
 ghost use Rattle.tornado_main.specs.Outcome.{answers};
 
 use crate::answer::{Line, send};
-use crate::fetch::{core_of_file, fetch};
-use crate::message::{Complaint, Fault, Spot};
-use crate::refusal::Refusal;
+use crate::cores::core_of_file;
+use crate::fetch::fetch;
+use crate::message::Complaint;
+use crate::refusal::{Refusal, faulty_line};
 use crate::status::Status;
 use attack_model::Attack;
 use attack_probes::holds;
@@ -22,19 +24,22 @@ use attack_text::{CertFault, read_attack};
 use linear_view::{View, attacks_are_the_views, view_of};
 use std::alloc::{AllocError, Global};
 use tor_edge::{Files, Sink};
+use tornado_words::Basis;
 
 /// Prints whether the attack of another file holds on the core.
 pub fn verify<'a, F: Files, O: Sink>(
     alloc: Global,
     file: &'a str,
     attack: &'a str,
+    basis: &Basis,
     files: &mut F,
     out: &mut O,
 ) -> Result<Status, Refusal<'a>>
+    requires { HasFitWidth basis.now }
     ensures { Ends F.faults F.too_long F.refused F.fetched F.contents O.faults O.written (file.now ∷ attack.now ∷ [])
-        (VerifyEnds (F.contents files.old) file.now attack.now) files.old files.new out.old out.new result }
+        (VerifyEnds (F.contents files.old) file.now attack.now basis.now) files.old files.new out.old out.new result }
 {
-    let core = core_of_file(alloc, file, files)?;
+    let core = core_of_file(alloc, file, basis, files)?;
     let view = view_of(alloc, &core)?;
     let attack = attack_of_file(alloc, attack, &view, files)?;
     let (line, status) = confirmation(alloc, &view, &attack)?;
@@ -87,20 +92,24 @@ fn attack_of_bytes<'a>(
 {
     match read_attack(alloc, view, bytes) {
         Ok(attack) => Ok(attack),
-        Err(CertFault::Syntax(line)) => Err(faulty(name, line, Complaint::Syntax)),
-        Err(CertFault::OutOfRange(line)) => Err(faulty(name, line, Complaint::OutOfRange)),
-        Err(CertFault::OtherCore(line)) => Err(faulty(name, line, Complaint::OtherCore)),
+        Err(CertFault::Syntax(line)) => Err(faulty_line(
+            Status::Values,
+            name,
+            line,
+            Complaint::Syntax,
+        )),
+        Err(CertFault::OutOfRange(line)) => Err(faulty_line(
+            Status::Values,
+            name,
+            line,
+            Complaint::OutOfRange,
+        )),
+        Err(CertFault::OtherCore(line)) => Err(faulty_line(
+            Status::Values,
+            name,
+            line,
+            Complaint::OtherCore,
+        )),
         Err(CertFault::Memory(_)) => Err(Refusal::Memory),
     }
-}
-
-// The refusal of the file of an attack for what is wrong at a line.
-fn faulty<'a>(name: &'a str, line: u64, what: Complaint) -> Refusal<'a>
-    ensures { result ≡ Refusal.Faulty Status.Values name.entry (record { at = Spot.Line line; what = what }) }
-{
-    let fault = Fault {
-        at: Spot::Line(line),
-        what,
-    };
-    Refusal::Faulty(Status::Values, name, fault)
 }

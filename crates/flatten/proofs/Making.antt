@@ -30,16 +30,18 @@ can_make_core have_room program known plans planned =
     let n = inputs_at file.defs entry in
     let asked_width = known.asked_width in
     let asked_entry = known.asked_entry in
+    let judged = known.judged in
     let (wide, d, is) = entry_stands program known in
     let inputs = terms_of_inputs n in
     let many : length inputs ≡ (signature d).inputs =
     length-map (range_with_len 0 n) Input ∙ length-range_with_len 0 n ∙ sym is.taken in
-    let made = entry_outcome (term_operators width) asked_width asked_entry file width entry known.judged wide.0 d is.stands inputs many in
-    let gives = plan_gives_outcome code_gives_value (term_operators width) asked_width asked_entry file width entry known.judged wide.0
+    let operators = term_operators width in
+    let made = entry_outcome operators asked_width asked_entry file width entry judged wide.0 d is.stands inputs many in
+    let gives = plan_gives_outcome code_gives_value operators asked_width asked_entry file width entry judged wide.0
     plans planned d is.stands inputs many in
     let long = made.2 in
-    let room = have_room asked_width asked_entry file width entry known.judged plans planned in record {
-      fits = plans_fit asked_width asked_entry file width entry known.judged wide.0 plans planned;
+    let room = have_room asked_width asked_entry file width entry judged plans planned in record {
+      fits = plans_fit asked_width asked_entry file width entry judged wide.0 plans planned;
       count = sym is.taken ∙ sym (ap (λ (o : Option Def). inputs_of o) is.stands);
       room = omega (arith, is.taken, is.few_taken, room);
       outputs = made.0;

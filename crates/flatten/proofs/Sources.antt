@@ -1,5 +1,5 @@
 -- The core that the plans of a program make is the core of the source, and so are the limits that it passes.
-use Rattle.std.proofs.Common.{◌≡◌, ◌<◌, ◌≤◌, ℕ, zero, suc, List, [], ◌∷◌, Option, Some, refl, sym, ap, ◌∙◌, subst, arith}
+use Rattle.std.proofs.Common.{◌≡◌, ◌<◌, ℕ, zero, suc, List, [], ◌∷◌, Option, Some, refl, sym, ap, ◌∙◌, subst}
 use Rattle.std.specs.Prelude.{IfSome, option_map, Result, Ok, Err, IfErr}
 use Rattle.std.specs.Result.{IsErrAnd}
 use Rattle.usuba_trees.specs.declared.Def.{Def}
@@ -12,13 +12,11 @@ use Rattle.usuba_types.specs.Judged.{Program, IsProgram, inputs_at}
 use Rattle.usuba_types.proofs.Entry.{entry_stands}
 use Rattle.usuba_plan.specs.Plans.{IsPlanned}
 use Rattle.usuba_plan.specs.declared.plans.Plan.{Plan}
-use Rattle.plan_bounds.specs.RoomLaw.{PlansHaveRoom}
 use Rattle.source_terms.specs.SourceTerms.{inputs_of, core_of_source}
 use Rattle.term_store.specs.CoreLaw.{PlanCoreIsTheSources}
 use Rattle.term_store.specs.PlanCore.{plan_core, CanMakeCore}
 use Rattle.flatten.specs.CoreOf.{IsFlatRefusal, flat_fault_of}
 use Rattle.flatten.specs.declared.fault.FlatFault.{FlatFault}
-use Rattle.flatten.proofs.Making.{can_make_core}
 
 -- the entry has as many inputs for its core as it is judged to have
 same_inputs : (defs : List Def) (k : ℕ) → inputs_at defs k ≡ inputs_of defs k
@@ -33,43 +31,11 @@ pub core_is_the_sources : PlanCoreIsTheSources → (program : Program) → IsPro
     ≡ core_of_source program.width program.file program.entry
 core_is_the_sources law program known plans planned =
     let (wide, d, is) = entry_stands program known in
-    ap (λ (n : ℕ). plan_core program.width program.file.defs plans program.entry n) (same_inputs program.file.defs program.entry)
-    ∙ (law known.asked_width known.asked_entry program.file program.width program.entry known.judged wide.0 plans planned).1
-
--- numbers and definitions that were read off a program
-pub record AreRead (program : Program) (width entry n : ℕ) (defs : List Def) : Type 0 where
-  pub width_is : width ≡ program.width
-  pub entry_is : entry ≡ program.entry
-  pub defs_is : defs ≡ program.file.defs
-  pub n_is : n ≡ inputs_at program.file.defs program.entry
-
-module _ (program : Program) (known : IsProgram program) (width entry n : ℕ) (defs : List Def)
-    (read : AreRead program width entry n defs) (plans : List Plan) (planned : IsPlanned defs plans entry) where
-  -- the plans are those of the program
-  planned_as_read : IsPlanned program.file.defs plans program.entry
-  planned_as_read =
-      subst (λ (ds : List Def). IsPlanned ds plans program.entry) read.defs_is
-      (subst (λ (e : ℕ). IsPlanned defs plans e) read.entry_is planned)
-
-  -- its core can be made
-  pub made_as_read : PlansHaveRoom → CanMakeCore width defs plans entry n
-  made_as_read have_room =
-      rw (read.width_is, read.entry_is, read.defs_is, read.n_is) (can_make_core have_room program known plans planned_as_read)
-
-  -- and is that of the source
-  pub core_as_read : PlanCoreIsTheSources → plan_core width defs plans entry n ≡ core_of_source program.width program.file program.entry
-  core_as_read law =
-      rw (read.width_is, read.entry_is, read.defs_is, read.n_is) (core_is_the_sources law program known plans planned_as_read)
-
-  -- its width is 1 to 64
-  pub wide_as_read : (0 < width) × (width ≤ 64)
-  wide_as_read = let wide = (entry_stands program known).0 in rw read.width_is (wide.0, wide.1)
-
-  -- there is an input
-  pub some_as_read : 0 < n
-  some_as_read =
-      let (wide, d, is) = entry_stands program known in
-      omega (arith, read.n_is, is.taken, is.takes)
+    let file = program.file in
+    let width = program.width in
+    let entry = program.entry in
+    ap (λ (n : ℕ). plan_core width file.defs plans entry n) (same_inputs file.defs entry)
+    ∙ (law known.asked_width known.asked_entry file width entry known.judged wide.0 plans planned).1
 
 -- a core that can be made is there
 pub core_is_made : (w : ℕ) (defs : List Def) (plans : List Plan) (number n : ℕ) → CanMakeCore w defs plans number n
@@ -77,7 +43,8 @@ pub core_is_made : (w : ℕ) (defs : List Def) (plans : List Plan) (number n : �
 core_is_made w defs plans number n can = (core_of_terms w n can.outputs, ap (option_map (core_of_terms w n)) can.makes)
 
 -- a limit that the core passes is that of the source's core
-pub limit_is_passed : (program : Program) (o : Option Circuit) → o ≡ core_of_source program.width program.file program.entry
+pub limit_is_passed : (program : Program) (o : Option Circuit)
+    → o ≡ core_of_source program.width program.file program.entry
     → (core : Circuit) × (o ≡ Some core) → (error : CloseFault)
     → (error ≡ close_fault.CoreTooLarge → IfSome o (λ core. MAX_WEIGHT < weight core))
     → (error ≡ close_fault.ColumnsTooMany → IfSome o (λ core. IsSmall core × (MAX_COLUMNS < columns core)))

@@ -13,10 +13,12 @@ use Rattle.flatten.specs.declared.fault.FlatFault.TheVariants as flat_fault
 abbrev pub IsCoreOf : Program → Circuit → Type 0
 IsCoreOf program core = core_of_source program.width program.file program.entry ≡ Some core
 
--- a refusal has its cause: the core has too many equations for its width, or else too many columns; want of memory has none
+-- a refusal has its cause: the core has too many equations for its width, or else too many columns; want of memory has
+-- none
 abbrev pub IsFlatRefusal : Program → FlatFault → Type 0
 IsFlatRefusal program flat_fault.CoreTooLarge = (core : Circuit) × IsCoreOf program core × (MAX_WEIGHT < weight core)
-IsFlatRefusal program flat_fault.ColumnsTooMany = (core : Circuit) × IsCoreOf program core × IsSmall core × (MAX_COLUMNS < columns core)
+IsFlatRefusal program flat_fault.ColumnsTooMany =
+    (core : Circuit) × IsCoreOf program core × IsSmall core × (MAX_COLUMNS < columns core)
 IsFlatRefusal program (flat_fault.Memory error) = Unit {0}
 
 -- the refusal of a circuit, as one of a source

@@ -1,0 +1,6 @@
+pub mod Origins
+pub mod ColumnNames
+pub mod RefreshedRows
+pub mod RefreshedProducts
+pub mod Attacks
+pub mod Narrowing

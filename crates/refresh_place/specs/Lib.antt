@@ -1,0 +1,3 @@
+pub mod RepairSet
+pub mod RefreshedAttacks
+pub mod State

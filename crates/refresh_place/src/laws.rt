@@ -1,0 +1,23 @@
+ghost use Rattle.refresh_place.specs.RefreshedAttacks.{RefreshedCoresAreRefreshed, AttacksOnRefreshedCores};
+
+use linear_view::{Column, core_view_size};
+use span_model::{
+    all_refreshed_is_secure, attack_stays_with_fewer, none_refreshed_is_same, refreshed_under_names,
+};
+
+/// The products of a refreshed core are refreshed products.
+pub fn refreshed_cores_are_refreshed()
+    ensures { RefreshedCoresAreRefreshed }
+{}
+
+/// The attacks on refreshed cores: none with all products refreshed, and no fewer with fewer of them.
+pub fn attacks_on_refreshed_cores()
+    ensures { AttacksOnRefreshedCores }
+{
+    refreshed_cores_are_refreshed();
+    refreshed_under_names::<Column, Column>();
+    all_refreshed_is_secure::<Column>();
+    attack_stays_with_fewer::<Column>();
+    none_refreshed_is_same::<Column>();
+    core_view_size();
+}

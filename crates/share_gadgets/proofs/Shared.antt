@@ -42,7 +42,7 @@ range_below B d f h k e l =
     let m : k < d = omega (arith, length-map-range_with_len f 0 d) in
     subst (λ (x : ℕ). x < 2 ^ B) (sym (get_or-map-range_with_len f 0 d k k e m (omega arith))) (h k)
 
-without_below : (B k first : ℕ) (terms : ℕ → ℕ) (n : ℕ) → first < 2 ^ B → ((j : ℕ) → terms j < 2 ^ B) → xor_without k first terms n < 2 ^ B
+pub without_below : (B k first : ℕ) (terms : ℕ → ℕ) (n : ℕ) → first < 2 ^ B → ((j : ℕ) → terms j < 2 ^ B) → xor_without k first terms n < 2 ^ B
 without_below B k first terms zero h t = h
 without_below B k first terms (suc n) h t =
     let ih = without_below B k first terms n h t in

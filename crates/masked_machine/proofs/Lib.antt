@@ -1,0 +1,15 @@
+pub mod Reading
+pub mod ShareLoops
+pub mod Operands
+pub mod Sharewise
+pub mod FirstShares
+pub mod PairLoops
+pub mod Pairs
+pub mod Products
+pub mod Calls
+pub mod Registers
+pub mod Runs
+pub mod Outputs
+pub mod Streams
+pub mod Parting
+pub mod Answering

@@ -1,0 +1,10 @@
+pub mod Numerals
+pub mod Lines
+pub mod Depths
+pub mod Spelling
+pub mod Readings
+pub mod Instances
+pub mod Assigning
+pub mod Judged
+pub mod Counting
+pub mod Terms

@@ -1,0 +1,1 @@
+node g (x:b1) returns (z:b1) let z = x tel node h (x:b1) returns (z:b1) let forall i in [1,2000000] {} z = x tel node f (x:b1) returns (z:b3) let z = (h(x), h(x), h(x)) tel

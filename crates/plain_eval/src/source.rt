@@ -15,7 +15,8 @@ pub fn eval(alloc: Global, judged: &Judged, inputs: &[u64]) -> Result<List<u64>,
     requires count { length inputs.now ≡ inputs_at judged.now.file.defs judged.now.entry }
     requires words { All (λ x. x < 2 ^ bits_of_width judged.now.width) inputs.now }
     ensures { let program = judged.now in IfOk result (λ outputs.
-        plain_meaning program.width (bits_of_width program.width) program.file program.entry inputs.now ≡ Some outputs) }
+        plain_meaning program.width (bits_of_width program.width) program.file program.entry inputs.now
+        ≡ Some outputs) }
 {
     plan_gives_meaning();
     let width = judged.width();

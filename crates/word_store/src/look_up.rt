@@ -42,7 +42,8 @@ fn picked_entries(
 fn word_of_entries(entries: &[u64], place: u32) -> u64
     requires few { length entries.now ≤ 64 }
     requires below { place < 64 }
-    ensures word { result ≡ word_of_bits (length entries.now) (λ position. bit_at (slice_index entries.now position) place) }
+    ensures word { result
+        ≡ word_of_bits (length entries.now) (λ position. bit_at (slice_index entries.now position) place) }
     ensures within { result < 2 ^ length entries.now }
 {
     let mut word = 0;
@@ -64,7 +65,8 @@ pub fn look_up_words(
     requires few_inputs { length words.now ≤ 8 }
     requires few_outputs { outputs ≤ 64 }
     requires whole { length entries.now ≡ 2 ^ length words.now }
-    ensures words { IfOk result (λ made. made.items ≡ map (looked_up_word bits outputs entries.now words.now) (range_with_len 0 outputs)) }
+    ensures words { IfOk result (λ made. made.items
+        ≡ map (looked_up_word bits outputs entries.now words.now) (range_with_len 0 outputs)) }
 {
     let picked = picked_entries(alloc, bits, entries, words)?;
     let mut made = Vec::with_capacity(alloc, outputs as usize)?;

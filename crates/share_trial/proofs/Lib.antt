@@ -1,0 +1,3 @@
+mod Sharings
+mod Outputs
+mod Lines

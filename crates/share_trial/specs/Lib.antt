@@ -1,0 +1,4 @@
+pub mod Trial
+pub mod TrialText
+pub mod TrialLaw
+pub mod Known

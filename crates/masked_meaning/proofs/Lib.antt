@@ -1,0 +1,2 @@
+mod LaneRuns
+mod Composing

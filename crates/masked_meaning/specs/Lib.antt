@@ -1,0 +1,2 @@
+pub mod MaskedCode
+pub mod Lanes

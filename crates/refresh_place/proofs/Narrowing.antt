@@ -1,7 +1,7 @@
 -- The set out of which products are taken one by one.
-use Rattle.std.proofs.Common.{◌≡◌, ℕ, ◌+◌, ◌<◌, ◌≤◌, ◌==◌, ◌&&◌, Bool, true, false, not, List, length, set, replicate, MatchBool, refl, sym, ap, ◌∙◌, subst, arith, inl, inr, ◌⊎◌, true≢false}
+use Rattle.std.proofs.Common.{◌≡◌, ◌≢◌, ℕ, ◌+◌, ◌<◌, ◌≤◌, ◌==◌, ◌&&◌, Bool, true, false, not, List, length, set, replicate, MatchBool, refl, sym, ap, ◌∙◌, subst, arith, inl, inr, ◌⊎◌, true≢false}
 use Rattle.std.proofs.lemmas.Bool.{cases_eq, cases_lt, eq-eqb, ne_eqb}
-use Rattle.std.proofs.lemmas.List.{get_or-set_same, get_or-set_other, get_or_past, set-set, length-set, length-replicate, get_or-replicate}
+use Rattle.std.proofs.lemmas.List.{get_or-set_same, get_or-set_other, get_or_past, length-set, length-replicate, get_or-replicate}
 use mathlib.Core.Path.{fun_ext}
 use Rattle.span_model.specs.Attack.{HasAttack}
 use Rattle.span_model.specs.Refresh.{IsWithin, without}
@@ -13,7 +13,7 @@ use Rattle.core_refresh.specs.RefreshedCore.{marked, refreshed_core}
 use Rattle.core_refresh.specs.RefreshedLaws.{RefreshedCoreSize}
 use Rattle.refresh_place.specs.RepairSet.{IsAttackedWith, IsRepairSetOf, IsRepairOf}
 use Rattle.refresh_place.specs.RefreshedAttacks.{AttacksOnRefreshedCores}
-use Rattle.refresh_place.specs.State.Narrowing.{IsNarrowed}
+use Rattle.refresh_place.specs.State.Narrowing.{IsNarrowed, IsCleared}
 
 -- what the search says of the view of a refreshed core
 pub attacked_answer : AttacksAreTheViews → RefreshedCoreSize → (core repaired : Circuit) (products : ℕ → Bool) (seen : view.LinearView) (b : Bool) → IsCore core
@@ -32,34 +32,6 @@ attacked_answer views size core repaired products seen b is e h answer =
         → MatchBool b (IsAttackedWith core products) (¬ IsAttackedWith core products)
     by true has there back = back has
     by false none there back = λ has. none (there has)
-
--- the marks without one
-pub unmarked : (marks : List Bool) (k : ℕ) → k < length marks → marked (set marks k false) ≡ without k (marked marks)
-unmarked marks k h = fun_ext (λ j. at j (cases_eq j k))
-  where
-    at : (j : ℕ) → (j ≡ k) ⊎ (j ≡ k → ⊥) → marked (set marks k false) j ≡ without k (marked marks) j
-    at j (inl e) =
-        ap (marked (set marks k false)) e ∙ get_or-set_same marks k false false h
-        ∙ sym (ap (λ (b : Bool). marked marks j && not b) (eq-eqb j k e) ∙ and_false (marked marks j))
-      where
-        and_false : (b : Bool) → (b && false) ≡ false
-        and_false true = refl
-        and_false false = refl
-    at j (inr other) =
-        get_or-set_other marks k j false false other
-        ∙ sym (ap (λ (b : Bool). marked marks j && not b) (ne_eqb j k other) ∙ and_true (marked marks j))
-      where
-        and_true : (b : Bool) → (b && true) ≡ b
-        and_true true = refl
-        and_true false = refl
-
--- a mark that is set again
-pub marked_again : (marks : List Bool) (k : ℕ) → k < length marks → marked marks k ≡ true → marked (set marks k true) ≡ marked marks
-marked_again marks k h e = fun_ext (λ j. at j (cases_eq j k))
-  where
-    at : (j : ℕ) → (j ≡ k) ⊎ (j ≡ k → ⊥) → marked (set marks k true) j ≡ marked marks j
-    at j (inl same) = ap (marked (set marks k true)) same ∙ get_or-set_same marks k true false h ∙ sym (ap (marked marks) same ∙ e)
-    at j (inr other) = get_or-set_other marks k j true false other
 
 -- without one more of a smaller set
 without_within : (j : ℕ) (less more : ℕ → Bool) → IsWithin less more → IsWithin (without j less) (without j more)
@@ -97,56 +69,103 @@ narrowed_start laws core is n marks count e =
       needed = λ j h. absurd (omega arith);
     }
 
--- one product more was tried
-pub narrowed_more : AttacksOnRefreshedCores → (core : Circuit) → IsCore core → (k : ℕ) (marks : List Bool) (b : Bool) → IsNarrowed core k marks
-    → k < length marks → MatchBool b (IsAttackedWith core (marked (set marks k false))) (¬ IsAttackedWith core (marked (set marks k false)))
-    → IsNarrowed core (k + 1) (set (set marks k false) k b)
-narrowed_more laws core is k marks b narrowed h answer =
-    subst (λ (l : List Bool). IsNarrowed core (k + 1) l) (sym (set-set marks k false b)) (by b answer)
-  where
-    untried : (b : Bool) (j : ℕ) → k + 1 ≤ j → j < length (set marks k b) → marked (set marks k b) j ≡ true
-    untried b j low within =
-        let many : length (set marks k b) ≡ length marks = length-set marks k b in
-        let other : j ≡ k → ⊥ = λ e. absurd (omega arith) in
-        get_or-set_other marks k j b false other ∙ narrowed.untried j (omega arith) (omega arith)
+-- nothing is cleared yet
+pub cleared_none : (from : ℕ) (marks : List Bool) → IsCleared from from marks marks
+cleared_none from marks = record { count = refl; front = λ j h. refl; gone = λ j low high. absurd (omega arith); back = λ j h. refl }
 
-    by : (b : Bool) → MatchBool b (IsAttackedWith core (marked (set marks k false))) (¬ IsAttackedWith core (marked (set marks k false)))
-        → IsNarrowed core (k + 1) (set marks k b)
-    by true attacked =
-        let same = marked_again marks k h (narrowed.untried k (omega arith) h) in
-        let less = unmarked marks k h in
-        record {
-          marks = length-set marks k true ∙ narrowed.marks;
-          untried = untried true;
-          secure = subst (λ (s : ℕ → Bool). ¬ IsAttackedWith core s) (sym same) narrowed.secure;
-          needed = λ j below there.
-              subst (λ (s : ℕ → Bool). IsAttackedWith core (without j s)) (sym same)
-              (elim (cases_lt j k) [
-                | inl before ↦ narrowed.needed j before (ap (λ (s : ℕ → Bool). s j) (sym same) ∙ there)
-                | inr last ↦
-                    let here : k ≡ j = omega arith in
-                    subst (λ (x : ℕ). IsAttackedWith core (without x (marked marks))) here
-                    (subst (λ (s : ℕ → Bool). IsAttackedWith core s) less attacked)
-              ]);
-        }
-    by false secure =
-        let less = unmarked marks k h in
-        let within : IsWithin (marked (set marks k false)) (marked marks) =
-        λ j there. smaller k (marked marks) j (ap (λ (s : ℕ → Bool). s j) (sym less) ∙ there) in
-        record {
-          marks = length-set marks k false ∙ narrowed.marks;
-          untried = untried false;
-          secure = secure;
-          needed = λ j below there.
-              elim (cases_lt j k) [
-                | inl before ↦
-                    laws.fewer core (without j (marked (set marks k false))) (without j (marked marks)) is
-                    (without_within j (marked (set marks k false)) (marked marks) within) (narrowed.needed j before (within j there))
-                | inr last ↦
-                    let here : j ≡ k = omega arith in
-                    absurd (true≢false (sym there ∙ ap (marked (set marks k false)) here ∙ get_or-set_same marks k false false h))
-              ];
-        }
+-- one mark more is cleared
+pub cleared_more : (from to : ℕ) (old new : List Bool) → IsCleared from to old new → from ≤ to → to < length old
+    → IsCleared from (to + 1) old (set new to false)
+cleared_more from to old new is rise within =
+    let many = is.count in
+    record {
+      count = length-set new to false ∙ is.count;
+      front = λ j h. let other : j ≡ to → ⊥ = λ e. absurd (omega arith) in get_or-set_other new to j false false other ∙ is.front j h;
+      gone = λ j low high.
+          elim (cases_eq j to) [
+            | inl e ↦ ap (marked (set new to false)) e ∙ get_or-set_same new to false false (omega arith)
+            | inr other ↦ get_or-set_other new to j false false other ∙ is.gone j low (let apart : j ≢ to = other in omega arith)
+          ];
+      back = λ j h. let other : j ≡ to → ⊥ = λ e. absurd (omega arith) in get_or-set_other new to j false false other ∙ is.back j (omega arith);
+    }
+
+-- the cleared marks are among the marks
+cleared_within : (from to : ℕ) (old new : List Bool) → IsCleared from to old new → IsWithin (marked new) (marked old)
+cleared_within from to old new is j there = elim (cases_lt j from) [
+  | inl before ↦ sym (is.front j before) ∙ there
+  | inr late ↦ elim (cases_lt j to) [
+    | inl within ↦ absurd (true≢false (sym there ∙ is.gone j late within))
+    | inr after ↦ sym (is.back j after) ∙ there
+  ]
+]
+
+-- a block of products is taken out
+pub narrowed_less : AttacksOnRefreshedCores → (core : Circuit) → IsCore core → (k block : ℕ) (marks less : List Bool) → IsNarrowed core k marks
+    → IsCleared k (k + block) marks less → ¬ IsAttackedWith core (marked less) → IsNarrowed core (k + block) less
+narrowed_less laws core is k block marks less narrowed cleared secure =
+    let within = cleared_within k (k + block) marks less cleared in
+    let many = cleared.count in
+    record {
+      marks = cleared.count ∙ narrowed.marks;
+      untried = λ j low h. cleared.back j low ∙ narrowed.untried j (omega arith) (omega arith);
+      secure = secure;
+      needed = λ j below there.
+          elim (cases_lt j k) [
+            | inl before ↦
+                laws.fewer core (without j (marked less)) (without j (marked marks)) is
+                (without_within j (marked less) (marked marks) within) (narrowed.needed j before (within j there))
+            | inr late ↦ absurd (true≢false (sym there ∙ cleared.gone j late below))
+          ];
+    }
+
+-- a product that can't be taken out stays
+pub narrowed_stays : AttacksOnRefreshedCores → (core : Circuit) → IsCore core → (k block : ℕ) (marks less : List Bool) → IsNarrowed core k marks
+    → block ≡ 1 → IsCleared k (k + block) marks less → IsAttackedWith core (marked less) → IsNarrowed core (k + 1) marks
+narrowed_stays laws core is k block marks less narrowed one cleared attacked =
+    let without_less : IsWithin (without k (marked marks)) (marked less) = λ j there.
+    let both = apart_from (marked marks j) (not (j == k)) there in
+    elim (cases_lt j k) [
+      | inl before ↦ cleared.front j before ∙ both.0
+      | inr late ↦ elim (cases_eq j k) [
+        | inl same ↦ absurd (true≢false (sym both.1 ∙ ap not (eq-eqb j k same)))
+        | inr other ↦ cleared.back j (let differ : j ≢ k = other in omega arith) ∙ both.0
+      ]
+    ] in
+    record {
+      marks = narrowed.marks;
+      untried = λ j low h. narrowed.untried j (omega arith) h;
+      secure = narrowed.secure;
+      needed = λ j below there.
+          elim (cases_lt j k) [
+            | inl before ↦ narrowed.needed j before there
+            | inr last ↦
+                let here : k ≡ j = omega arith in
+                subst (λ (x : ℕ). IsAttackedWith core (without x (marked marks))) here
+                (laws.fewer core (without k (marked marks)) (marked less) is without_less attacked)
+          ];
+    }
+  where
+    apart_from : (x y : Bool) → (x && y) ≡ true → (x ≡ true) × (y ≡ true)
+    apart_from true true e = (refl, refl)
+    apart_from true false e = absurd (true≢false (sym e))
+    apart_from false y e = absurd (true≢false (sym e))
+
+-- the same by the answer of the search
+pub narrowed_less_at : AttacksOnRefreshedCores → (core : Circuit) → IsCore core → (k block : ℕ) (marks first less second : List Bool) (b : Bool) → IsNarrowed core k marks
+    → first ≡ marks → second ≡ less → IsCleared k (k + block) first less
+    → MatchBool b (IsAttackedWith core (marked second)) (¬ IsAttackedWith core (marked second)) → b ≡ false → IsNarrowed core (k + block) less
+narrowed_less_at laws core is k block marks first less second true narrowed e f cleared answer not_so = absurd (true≢false not_so)
+narrowed_less_at laws core is k block marks first less second false narrowed e f cleared answer not_so =
+    narrowed_less laws core is k block marks less narrowed (subst (λ (l : List Bool). IsCleared k (k + block) l less) e cleared)
+    (subst (λ (l : List Bool). ¬ IsAttackedWith core (marked l)) f answer)
+
+pub narrowed_stays_at : AttacksOnRefreshedCores → (core : Circuit) → IsCore core → (k block : ℕ) (marks first less second : List Bool) (b : Bool) → IsNarrowed core k marks
+    → first ≡ marks → second ≡ less → IsCleared k (k + block) first less
+    → MatchBool b (IsAttackedWith core (marked second)) (¬ IsAttackedWith core (marked second)) → b ≡ true → block ≡ 1 → IsNarrowed core (k + 1) marks
+narrowed_stays_at laws core is k block marks first less second true narrowed e f cleared answer so one =
+    narrowed_stays laws core is k block marks less narrowed one (subst (λ (l : List Bool). IsCleared k (k + block) l less) e cleared)
+    (subst (λ (l : List Bool). IsAttackedWith core (marked l)) f answer)
+narrowed_stays_at laws core is k block marks first less second false narrowed e f cleared answer so one = absurd (true≢false (sym so))
 
 -- all products were tried
 pub narrowed_all : (core : Circuit) (k : ℕ) (marks : List Bool) → IsNarrowed core k marks → length marks ≤ k → IsRepairSetOf core (marked marks)

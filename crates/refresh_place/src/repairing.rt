@@ -1,9 +1,10 @@
-ghost use Rattle.std.specs.Prelude.{◌≡◌, ℕ, List, length, IfOk, MatchBool};
+ghost use Rattle.std.specs.Prelude.{◌≡◌, ◌+◌, ◌<◌, ◌≤◌, ◌^◌, ℕ, List, length, IfOk, MatchBool, MatchOption};
 ghost use Rattle.span_model.specs.Attack.{Product, HasAttack};
 ghost use Rattle.usuba0.specs.Circuit.{IsSmall, HasFewColumns, products_of};
 ghost use Rattle.tightprove.specs.Verdict.{IsVerdictOf};
 ghost use Rattle.core_refresh.specs.RefreshedCore.{marked};
 ghost use Rattle.refresh_place.specs.RepairSet.{IsAttackedWith, IsRepairSetOf, IsRepairOf};
+ghost use Rattle.refresh_place.specs.State.Narrowing.{IsNarrowed, IsCleared};
 
 use crate::laws::attacks_on_refreshed_cores;
 use core_refresh::{refreshed, refreshed_core_size};
@@ -47,7 +48,66 @@ fn is_attacked(alloc: Global, core: &Core, set: &[bool]) -> Result<bool, AllocEr
     Ok(is_leak(&verdict))
 }
 
-// The marks of a repair set: product by product it is tried to do without its refresh.
+// The marks without those from one product up to another.
+fn cleared(alloc: Global, marks: &[bool], from: usize, to: usize) -> Result<Vec<bool>, AllocError>
+    requires rise { from ≤ to }
+    requires within { to ≤ length marks.now }
+    ensures { IfOk result (λ less. IsCleared from to marks.now less.items) }
+{
+    let mut less = Vec::from_slice(alloc, marks)?;
+    for k in from..to {
+        less[k] = false;
+    }
+    Ok(less)
+}
+
+// Tries to do without the refreshes of a block of products, and of its first half while this can't be: the answer is how
+// many products were taken out of the set, or none where the first one is needed.
+fn take_out(
+    alloc: Global,
+    core: &Core,
+    set: &mut Vec<bool>,
+    k: usize,
+    mut block: usize,
+) -> Result<Option<usize>, AllocError>
+    requires small { IsSmall core.now }
+    requires few_columns { HasFewColumns core.now }
+    requires narrowed { IsNarrowed core.now k set.old.items }
+    requires some { 0 < block }
+    requires within { k + block ≤ length set.old.items }
+    ensures { IfOk result (λ taken. MatchOption taken (IsNarrowed core.now (k + 1) set.new.items)
+        (λ count. (0 < count) × (count ≤ block) × IsNarrowed core.now (k + count) set.new.items)) }
+{
+    attacks_on_refreshed_cores();
+    let _width = core.width();
+    loop {
+        let less = cleared(alloc, set.as_slice(), k, k + block)?;
+        if !is_attacked(alloc, core, less.as_slice())? {
+            *set = less;
+            return Ok(Some(block));
+        }
+        if block == 1 {
+            return Ok(None);
+        }
+        block /= 2;
+    }
+}
+
+// How many products are tried together after some were taken out, of so many that were tried.
+fn next_block(tried: usize, taken: usize) -> usize
+    requires some { 0 < taken }
+    requires within { taken ≤ tried }
+    requires small { tried < 2 ^ 32 }
+    ensures { 0 < result }
+{
+    if taken == tried {
+        taken * 2
+    } else {
+        (taken / 2).max(1)
+    }
+}
+
+// The marks of a repair set: block by block it is tried to do without the refreshes.
 fn repair_set(alloc: Global, core: &Core) -> Result<Vec<bool>, AllocError>
     requires small { IsSmall core.now }
     requires few_columns { HasFewColumns core.now }
@@ -58,23 +118,33 @@ fn repair_set(alloc: Global, core: &Core) -> Result<Vec<bool>, AllocError>
     let _width = core.width();
     let count = core.products() as usize;
     let mut set = vec![in alloc; true; count]?;
-    for k in 0..count {
-        set[k] = false;
-        let is_needed = is_attacked(alloc, core, set.as_slice())?;
-        set[k] = is_needed;
+    let mut k = 0;
+    let mut block = count;
+    while k < count {
+        let tried = block.min(count - k);
+        match take_out(alloc, core, &mut set, k, tried)? {
+            Some(taken) => {
+                k += taken;
+                block = next_block(tried, taken);
+            }
+            None => {
+                k += 1;
+                block = 1;
+            }
+        }
     }
     Ok(set)
 }
 
 // The marks as a list.
 fn listed(alloc: Global, marks: &[bool]) -> Result<List<bool>, AllocError>
-    ensures { IfOk result (λ set. set ≡ marks.now) }
+    ensures { IfOk result (λ list. list ≡ marks.now) }
 {
-    let mut set = List::new(alloc);
+    let mut list = List::new(alloc);
     for mark in marks {
-        set.push(*mark)?;
+        list.push(*mark)?;
     }
-    Ok(set)
+    Ok(list)
 }
 
 /// A repair set of the core, and its refreshed core: it has no attack, and would have one if any product of the set were

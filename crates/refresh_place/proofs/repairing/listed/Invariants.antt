@@ -2,4 +2,4 @@ use Rattle.std.proofs.Common.{◌≡◌, take}
 use Rattle.refresh_place.proofs.repairing.listed.Given as goal
 
 abbrev pub invariant-loop-mark : goal.invariant-loop-mark
-invariant-loop-mark l = l.set ≡ take l.mark-index l.marks
+invariant-loop-mark l = l.list ≡ take l.mark-index l.marks

@@ -1,0 +1,4 @@
+pub mod TokenLemmas
+pub mod NumberLemmas
+pub mod ReadLemmas
+pub mod LawLemmas

@@ -1,0 +1,6 @@
+pub mod Tokens
+pub mod Numbers
+pub mod Reading
+pub mod Laws
+pub mod Writing
+pub mod Parts

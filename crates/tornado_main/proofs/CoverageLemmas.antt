@@ -69,11 +69,12 @@ order_fits contents (order.Check file basis) = after_fits contents file exit.Sou
 order_fits contents (order.Verify file attack basis) =
     after_fits contents file exit.Source _ _ _ (inl refl) (λ core. after_fits contents attack exit.Values _ _ _ (inr refl) (confirmation_fits core))
 order_fits contents (order.Eval file values basis) = λ end ends. absurd ends
-order_fits contents (order.Repair file basis) = λ end ends. absurd ends
+order_fits contents (order.Repair file basis) =
+    after_fits contents file exit.Source _ _ _ (inl refl) (λ core end repaired. done_fits _ end repaired.3)
 order_fits contents (order.Compile file word basis) = λ end ends. absurd ends
 order_fits contents (order.Run cfile values) = λ end ends. absurd ends
 order_fits contents (order.Trial file shares seed basis) = λ end ends. absurd ends
-order_fits contents (order.Gen seed size) = λ end ends. absurd ends
+order_fits contents (order.Gen seed size) = λ end told. done_fits _ end told.2
 
 -- where the contents are told, two fetches of a name answer the same bytes
 same_bytes : (file : List ℕ → Option (List ℕ)) (name a b : List ℕ) → IsFetched (Some file) name a → IsFetched (Some file) name b → a ≡ b
@@ -103,12 +104,17 @@ after_one {A = A} file name at_fault Holds IsFaulty Next one apart next end othe
     let same : a ≡ a' = one b' a a' (subst (λ (k : List ℕ). Holds a k) (same_bytes file name b b' x x') h) h' in
     next a' end other s t (subst (λ (k : A). Next k end) same n) n' hs ht
 
--- one answer has one status
-done_one : (text : List ℕ) → HaveOneStatus (λ end. end ≡ answers text exit.Done)
-done_one text end other s t x y hs ht =
+-- answers with the status 0 have one status
+answers_one : (text another : List ℕ) (end other : Outcome) (s t : Status) → end ≡ answers text exit.Done → other ≡ answers another exit.Done
+    → HasStatus s end → HasStatus t other → s ≡ t
+answers_one text another end other s t x y hs ht =
     let p : exit.Done ≡ s = subst (λ (e : Outcome). HasStatus s e) x hs in
     let q : exit.Done ≡ t = subst (λ (e : Outcome). HasStatus t e) y ht in
     sym p ∙ q
+
+-- one answer has one status
+done_one : (text : List ℕ) → HaveOneStatus (λ end. end ≡ answers text exit.Done)
+done_one text end other s t x y hs ht = answers_one text text end other s t x y hs ht
 
 -- the attack of a leak is an attack
 has_attack : (core : Circuit) (attack : Attack) → IsAttackOfLeak core attack → HasAttack (core_products core)
@@ -137,12 +143,12 @@ attack_apart view bytes a _ x (out_of_range _ line h) = let here : Ok a ≡ Err 
 attack_apart view bytes a _ x (other_core _ line h) = let here : Ok a ≡ Err (cert.OtherCore line) = sym x ∙ h in absurd (cc)
 
 -- a file without a fault has none
-no_judged_fault : (asked_width : Option ℕ) (asked_entry : Option (List ℕ)) (file : File) (fault : JudgedFault)
+pub no_judged_fault : (asked_width : Option ℕ) (asked_entry : Option (List ℕ)) (file : File) (fault : JudgedFault)
     → fault_of asked_width asked_entry file ≡ None → ¬ (fault_of asked_width asked_entry file ≡ Some fault)
 no_judged_fault asked_width asked_entry file fault x y = let here : None ≡ Some fault = sym x ∙ y in absurd (cc)
 
 -- a core within both limits passes none
-limit_apart : (core : Circuit) (fault : Fault) → PassesLimit core fault → IsSmall core → ¬ HasFewColumns core
+pub limit_apart : (core : Circuit) (fault : Fault) → PassesLimit core fault → IsSmall core → ¬ HasFewColumns core
 limit_apart core _ (too_large more) small few = absurd (omega (arith, more, small))
 limit_apart core _ (too_many less more) small few = absurd (omega (arith, more, few))
 
@@ -220,8 +226,10 @@ module _ (one_file : (bytes : List ℕ) (first second : File) → SpellsFile byt
       after_one file name exit.Source _ _ _ (held_one b) (held_apart b)
       (λ core. after_one file attack exit.Values _ _ _ (attack_one (core_view core)) (attack_apart (core_view core)) (confirmation_one core))
   order_one file (order.Eval name values b) = λ end other s t x y hs ht. absurd x
-  order_one file (order.Repair name b) = λ end other s t x y hs ht. absurd x
+  order_one file (order.Repair name b) =
+      after_one file name exit.Source _ _ _ (held_one b) (held_apart b)
+      (λ core end other s t x y hs ht. answers_one _ _ end other s t x.3 y.3 hs ht)
   order_one file (order.Compile name word b) = λ end other s t x y hs ht. absurd x
   order_one file (order.Run cfile values) = λ end other s t x y hs ht. absurd x
   order_one file (order.Trial name shares seed b) = λ end other s t x y hs ht. absurd x
-  order_one file (order.Gen seed size) = λ end other s t x y hs ht. absurd x
+  order_one file (order.Gen seed size) = λ end other s t x y hs ht. answers_one _ _ end other s t x.2 y.2 hs ht

@@ -6,8 +6,8 @@ use Rattle.tor_edge.specs.declared.files.Reason.TheVariants as reason
 use Rattle.tor_edge.specs.declared.files.Refusal.{Refusal as Refused}
 use Rattle.tornado_main.specs.Fetching.{NoneRefused, FetchedInOrder, count_for}
 use Rattle.tornado_main.specs.Files.{Contents}
-use Rattle.tornado_main.specs.Outcome.{Outcome, answers}
-use Rattle.tornado_main.specs.Ending.{Refuses, Takes, Fetched, Ends, Stops, SentAnswer}
+use Rattle.tornado_main.specs.Outcome.{Outcome, answers, unread}
+use Rattle.tornado_main.specs.Ending.{Refuses, Takes, Fetched, Ends, Shown, Stops, SentAnswer}
 use Rattle.tornado_main.specs.declared.refusal.Refusal.{Refusal}
 use Rattle.tornado_main.specs.declared.refusal.Refusal.TheVariants as refusal
 use Rattle.tornado_main.specs.declared.status.Status.{Status}
@@ -168,3 +168,44 @@ module _ {F O : Type 0} {faults too_long : F → ℕ} {last_refused : F → Opti
       → Ends faults too_long last_refused fetched contents out_faults out_written names May old new out_old out_new r
   unsent {out_old = out_old} {out_new = out_new} text s e {r = r} is step may sent =
       so_refused (λ r. Ends faults too_long last_refused fetched contents out_faults out_written names May old new out_old out_new r) e r is (unsent_for text s e step may sent)
+
+-- an order without files ends as its output shows, where it ends in no refusal of a file
+pub ends_without_files : {F O : Type 0} {faults too_long : F → ℕ} {last_refused : F → Option Refused} {fetched : F → List (List ℕ)}
+    {contents : F → Contents} {out_faults : O → ℕ} {out_written : O → Option (List ℕ)} (May : Outcome → Type 0) {files : F} {out_old out_new : O}
+    → ((name : List ℕ) (why : Reason) → ¬ May (unread name why)) → (r : Result Status Refusal)
+    → Shown out_faults out_written May out_old out_new r
+    → Ends faults too_long last_refused fetched contents out_faults out_written [] May files files out_old out_new r
+ends_without_files {fetched = fetched} May {files = files} none (Ok s) shown = record {
+  contents_stay = refl;
+  fetches = record { taken = []; left = []; in_order = refl; fetched = sym (append-nil (fetched files)) };
+  refuses = record { faults_stay = refl; too_long_stays = refl; refused_stays = refl };
+  shown = shown;
+}
+ends_without_files {fetched = fetched} May {files = files} none (Err (refusal.Faulty status name fault)) shown = record {
+  contents_stay = refl;
+  fetches = record { taken = []; left = []; in_order = refl; fetched = sym (append-nil (fetched files)) };
+  refuses = record { faults_stay = refl; too_long_stays = refl; refused_stays = refl };
+  shown = shown;
+}
+ends_without_files May none (Err (refusal.Unread name why)) shown = absurd (none name.now why shown.0)
+ends_without_files {fetched = fetched} May {files = files} none (Err refusal.Unwritten) shown = record {
+  contents_stay = refl;
+  fetches = record { taken = []; left = []; in_order = refl; fetched = sym (append-nil (fetched files)) };
+  refuses = record { faults_stay = refl; too_long_stays = refl; refused_stays = refl };
+  shown = shown;
+}
+ends_without_files {fetched = fetched} May {files = files} none (Err refusal.Memory) shown = record {
+  contents_stay = refl;
+  fetches = record { taken = []; left = []; in_order = refl; fetched = sym (append-nil (fetched files)) };
+  refuses = record { faults_stay = refl; too_long_stays = refl; refused_stays = refl };
+  shown = shown;
+}
+
+-- an answer that could not be sent
+pub unsent_shows : {O : Type 0} (out_faults : O → ℕ) (out_written : O → Option (List ℕ)) (May : Outcome → Type 0) (out_old out_new : O)
+    (text : List ℕ) (s : Status) (e : Refusal) → May (answers text s) → SentAnswer out_faults out_written text out_old out_new (Err e)
+    → Shown out_faults out_written May out_old out_new (Err e)
+unsent_shows out_faults out_written May out_old out_new text s (refusal.Faulty status name fault) may sent = absurd sent
+unsent_shows out_faults out_written May out_old out_new text s (refusal.Unread name why) may sent = absurd sent
+unsent_shows out_faults out_written May out_old out_new text s refusal.Unwritten may sent = record { text = text; status = s; allowed = may; rose = sent.0; prefix = sent.1 }
+unsent_shows out_faults out_written May out_old out_new text s refusal.Memory may sent = sent

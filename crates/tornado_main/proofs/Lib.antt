@@ -8,3 +8,4 @@ pub mod AnsweringLemmas
 pub mod SourceLemmas
 pub mod RunLemmas
 pub mod VerdictLemmas
+pub mod GenLemmas

@@ -5,6 +5,8 @@ use Rattle.tornado_main.specs.commands.Core.{CoreEnds}
 use Rattle.tornado_main.specs.commands.Rows.{RowsEnds}
 use Rattle.tornado_main.specs.commands.Check.{CheckEnds}
 use Rattle.tornado_main.specs.commands.Verify.{VerifyEnds}
+use Rattle.tornado_main.specs.commands.Repair.{RepairEnds}
+use Rattle.tornado_main.specs.commands.Gen.{GenEnds}
 use Rattle.tornado_words.specs.declared.order.Order.{Order}
 use Rattle.tornado_words.specs.declared.order.Order.TheVariants as order
 
@@ -14,4 +16,6 @@ OrderEnds contents (order.Core file basis) = CoreEnds contents file basis
 OrderEnds contents (order.Rows file basis) = RowsEnds contents file basis
 OrderEnds contents (order.Check file basis) = CheckEnds contents file basis
 OrderEnds contents (order.Verify file attack basis) = VerifyEnds contents file attack basis
+OrderEnds contents (order.Repair file basis) = RepairEnds contents file basis
+OrderEnds contents (order.Gen seed size) = GenEnds seed size
 OrderEnds contents _ = λ end. ⊥

@@ -3,3 +3,5 @@ pub mod Core
 pub mod Rows
 pub mod Check
 pub mod Verify
+pub mod Repair
+pub mod Gen

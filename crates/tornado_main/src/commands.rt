@@ -7,7 +7,9 @@ ghost use Rattle.tornado_words.specs.Ranges.{IsInRange};
 ghost use Rattle.tornado_main.specs.Words.{is_built, files_of};
 
 mod check;
+mod generate;
 mod print_core;
+mod print_repaired;
 mod print_rows;
 mod verify;
 
@@ -50,6 +52,10 @@ pub fn carry_out<'a, F: Files, O: Sink>(
             attack,
             basis,
         } => verify::verify(alloc, file.as_str(), attack.as_str(), basis, files, out),
+        Order::Repair { file, basis } => {
+            print_repaired::print_repaired(alloc, file.as_str(), basis, files, out)
+        }
+        Order::Gen { seed, size } => generate::generate(alloc, *seed, *size, out),
         _ => unreachable!(),
     }
 }

@@ -26,9 +26,8 @@ pub fn order_of(alloc: Global, words: &Vec<String>) -> Result<Order, WordFault>
 fn is_built(order: &Order) -> bool
     ensures { result ≡ is_built order.now }
 {
-    match order {
-        Order::Core { .. } | Order::Rows { .. } | Order::Check { .. } | Order::Verify { .. } =>
-            true,
-        _ => false,
-    }
+    !matches!(
+        order,
+        Order::Eval { .. } | Order::Compile { .. } | Order::Run { .. } | Order::Trial { .. }
+    )
 }

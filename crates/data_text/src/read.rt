@@ -2,6 +2,7 @@ ghost use Rattle.std.specs.Prelude.{◌≡◌, ◌<◌, ◌≤◌, ◌^◌, ℕ,
 ghost use Rattle.std.specs.Option.{SomeIff};
 ghost use Rattle.data_text.specs.Numbers.{number_of};
 ghost use Rattle.data_text.specs.Parts.{IsPart};
+ghost use Rattle.data_text.specs.Ranges.{AreValues, IsRun};
 ghost use Rattle.data_text.specs.Reading as spec;
 
 use crate::fault::ValueFault;
@@ -30,7 +31,8 @@ pub fn read_values(
 ) -> Result<List<u64>, ValueFault>
     requires few { length bytes.now ≤ 2 ^ 31 }
     requires bits { bits ≤ 64 }
-    ensures { spec.IsOrMemory result (spec.values_of count bits bytes.now) }
+    ensures said { spec.IsOrMemory result (spec.values_of count bits bytes.now) }
+    ensures in_range { IfOk result (AreValues count bits) }
 {
     let mut tokens = Tokens::new(bytes);
     let values = numbers(alloc, &mut tokens, u64::from(count), bits)?;
@@ -49,7 +51,8 @@ pub fn read_run(
 ) -> Result<RunValues, ValueFault>
     requires few { length bytes.now ≤ 2 ^ 31 }
     requires bits { bits ≤ 64 }
-    ensures { spec.IsOrMemory result (spec.run_of inputs bits bytes.now) }
+    ensures said { spec.IsOrMemory result (spec.run_of inputs bits bytes.now) }
+    ensures in_range { IfOk result (IsRun inputs bits) }
 {
     let mut tokens = Tokens::new(bytes);
     let shares = shares(&mut tokens)?;

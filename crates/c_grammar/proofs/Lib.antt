@@ -1,0 +1,3 @@
+mod Classing
+mod Places
+mod Predictive

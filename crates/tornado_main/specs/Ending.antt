@@ -32,12 +32,14 @@ IsUnread contents name refusal.Memory = Unit {0}
 
 -- the file of this name is refused with this status for a fault that it has, or memory was wanting
 abbrev pub IsRefusedFor : Status → (name : List ℕ) → (Fault → Type 0) → Refusal → Type 0
-IsRefusedFor ends_with name Has (refusal.Faulty status told fault) = (status ≡ ends_with) × (told.now ≡ name) × Has fault
+IsRefusedFor ends_with name Has (refusal.Faulty status told fault) = (status ≡ ends_with) × (told.now ≡ name)
+    × Has fault
 IsRefusedFor ends_with name Has (refusal.Unread told why) = ⊥
 IsRefusedFor ends_with name Has refusal.Unwritten = ⊥
 IsRefusedFor ends_with name Has refusal.Memory = Unit {0}
 
--- the names that were fetched in a step that answers this: all of these or, where memory was wanting, some from the first on
+-- the names that were fetched in a step that answers this: all of these or, where memory was wanting, some from the
+-- first on
 abbrev pub Takes : {T : Type 0} → (names before now : List (List ℕ)) → Result T Refusal → Type 0
 Takes names before now (Ok made) = now ≡ before ++ names
 Takes names before now (Err (refusal.Faulty status name fault)) = now ≡ before ++ names
@@ -50,36 +52,45 @@ module _ {F : Type 0} (faults too_long : F → ℕ) (last_refused : F → Option
   abbrev pub Refuses : {T : Type 0} → (old new : F) → Result T Refusal → Type 0
   Refuses old new (Ok made) = NoneRefused faults too_long last_refused old new
   Refuses old new (Err (refusal.Faulty status name fault)) = NoneRefused faults too_long last_refused old new
-  Refuses old new (Err (refusal.Unread name why)) = RefusedFetch faults too_long last_refused fetched old new name.now why
+  Refuses old new (Err (refusal.Unread name why)) =
+      RefusedFetch faults too_long last_refused fetched old new name.now why
   Refuses old new (Err refusal.Unwritten) = NoneRefused faults too_long last_refused old new
   Refuses old new (Err refusal.Memory) = NoneRefused faults too_long last_refused old new
 
   -- a step fetches the files of these names, one after another, and no others
-  pub record Fetched {T : Type 0} (contents : F → Contents) (names : List (List ℕ)) (old new : F) (result : Result T Refusal) : Type 0 where
+  pub record Fetched {T : Type 0} (contents : F → Contents) (names : List (List ℕ)) (old new : F)
+      (result : Result T Refusal) : Type 0 where
     pub contents_stay : contents new ≡ contents old
     pub takes : Takes names (fetched old) (fetched new) result
     pub refuses : Refuses old new result
 
 -- what became of the output, where an order ends as it may
-abbrev pub Shown : {O : Type 0} → (O → ℕ) → (O → Option (List ℕ)) → (Outcome → Type 0) → (old new : O) → Result Status Refusal → Type 0
+abbrev pub Shown : {O : Type 0} → (O → ℕ) → (O → Option (List ℕ)) → (Outcome → Type 0) → (old new : O)
+    → Result Status Refusal → Type 0
 Shown faults written May old new (Ok status) = WroteAnswer May status (written old) (written new)
-Shown faults written May old new (Err (refusal.Faulty status name fault)) = May (refused status name.now fault) × (new ≡ old)
+Shown faults written May old new (Err (refusal.Faulty status name fault)) = May (refused status name.now fault)
+    × (new ≡ old)
 Shown faults written May old new (Err (refusal.Unread name why)) = May (unread name.now why) × (new ≡ old)
-Shown faults written May old new (Err refusal.Unwritten) = StoppedWriting May (faults old) (faults new) (written old) (written new)
+Shown faults written May old new (Err refusal.Unwritten) = StoppedWriting May (faults old) (faults new) (written old)
+    (written new)
 Shown faults written May old new (Err refusal.Memory) = new ≡ old
 
 -- what became of the output to which an answer was sent
-abbrev pub SentAnswer : {O : Type 0} → (O → ℕ) → (O → Option (List ℕ)) → (text : List ℕ) → (old new : O) → Result (Unit {0}) Refusal → Type 0
+abbrev pub SentAnswer : {O : Type 0} → (O → ℕ) → (O → Option (List ℕ)) → (text : List ℕ) → (old new : O)
+    → Result (Unit {0}) Refusal → Type 0
 SentAnswer faults written text old new (Ok done) = written new ≡ appended (written old) text
 SentAnswer faults written text old new (Err (refusal.Faulty status name fault)) = ⊥
 SentAnswer faults written text old new (Err (refusal.Unread name why)) = ⊥
-SentAnswer faults written text old new (Err refusal.Unwritten) = Rose (faults old) (faults new) × AppendsPrefix (written old) (written new) text
+SentAnswer faults written text old new (Err refusal.Unwritten) = Rose (faults old) (faults new)
+    × AppendsPrefix (written old) (written new) text
 SentAnswer faults written text old new (Err refusal.Memory) = new ≡ old
 
-module _ {F O : Type 0} (faults too_long : F → ℕ) (last_refused : F → Option Refused) (fetched : F → List (List ℕ)) (contents : F → Contents)
+module _ {F O : Type 0} (faults too_long : F → ℕ) (last_refused : F → Option Refused) (fetched : F → List (List ℕ))
+    (contents : F → Contents)
     (out_faults : O → ℕ) (out_written : O → Option (List ℕ)) where
   -- an order on these files ended as it may
-  pub record Ends (names : List (List ℕ)) (May : Outcome → Type 0) (files_old files_new : F) (out_old out_new : O) (result : Result Status Refusal)
+  pub record Ends (names : List (List ℕ)) (May : Outcome → Type 0) (files_old files_new : F) (out_old out_new : O)
+      (result : Result Status Refusal)
       : Type 0 where
     pub contents_stay : contents files_new ≡ contents files_old
     pub fetches : FetchedInOrder names (fetched files_old) (fetched files_new)

@@ -11,7 +11,8 @@ count_for reason.Failed faults too_long = faults
 count_for reason.TooLong faults too_long = too_long
 
 -- the last fetch was of this name, and was refused for this reason, whose count rose
-pub record RefusedFetch {F : Type 0} (faults too_long : F → ℕ) (last_refused : F → Option Refused) (fetched : F → List (List ℕ))
+pub record RefusedFetch {F : Type 0} (faults too_long : F → ℕ) (last_refused : F → Option Refused)
+    (fetched : F → List (List ℕ))
     (old new : F) (name : List ℕ) (why : Reason) : Type 0 where
   pub rose : Rose (count_for why (faults old) (too_long old)) (count_for why (faults new) (too_long new))
   pub is_last : last_refused new ≡ Some (record { name = name; reason = why })
@@ -19,7 +20,8 @@ pub record RefusedFetch {F : Type 0} (faults too_long : F → ℕ) (last_refused
   pub last_fetched : fetched new ≡ earlier ++ name ∷ []
 
 -- no fetch was refused: both counts and the last refusal are as before
-pub record NoneRefused {F : Type 0} (faults too_long : F → ℕ) (last_refused : F → Option Refused) (old new : F) : Type 0 where
+pub record NoneRefused {F : Type 0} (faults too_long : F → ℕ) (last_refused : F → Option Refused) (old new : F)
+    : Type 0 where
   pub faults_stay : faults new ≡ faults old
   pub too_long_stays : too_long new ≡ too_long old
   pub refused_stays : last_refused new ≡ last_refused old

@@ -47,7 +47,8 @@ complaint_text complaint.LimitPassed = codes "limit passed"
 complaint_text complaint.OutOfRange = codes "out of range"
 complaint_text complaint.OtherCore = codes "another core"
 
--- where a file is at fault, behind its name: nothing of the file as a whole, a line, a line and a column, or the number of a call
+-- where a file is at fault, behind its name: nothing of the file as a whole, a line, a line and a column, or the
+-- number of a call
 abbrev pub spot_text : Spot → List ℕ
 spot_text spot.Whole = []
 spot_text (spot.Line line) = codes ":" ++ decimal line

@@ -1,7 +1,8 @@
 -- How a run of the program ends.
 use Rattle.std.specs.Prelude.{ℕ}
 use Rattle.tornado_main.specs.declared.status.Status.{Status}
-use Rattle.tornado_main.specs.declared.status.Status.TheVariants.{Done, Found, Usage, Source, Unread, Unwritten, Memory, Values}
+use Rattle.tornado_main.specs.declared.status.Status.TheVariants.{Done, Found, Usage, Source, Unread, Unwritten}
+use Rattle.tornado_main.specs.declared.status.Status.TheVariants.{Memory, Values}
 
 -- the exit status of the process
 abbrev pub code : Status → ℕ

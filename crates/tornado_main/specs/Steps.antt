@@ -11,8 +11,8 @@ use Rattle.tornado_main.specs.declared.message.Fault.{Fault}
 use Rattle.tornado_main.specs.declared.status.Status.{Status}
 use Rattle.tornado_main.specs.declared.status.Status.TheVariants as status
 
--- An order may end so that fetches the file of this name first. What the bytes of a file hold, and which faults they have,
--- is given, as is the status for a fault and how an order may end that goes on with what the file holds.
+-- An order may end so that fetches the file of this name first. What the bytes of a file hold, and which faults they
+-- have, is given, as is the status for a fault and how an order may end that goes on with what the file holds.
 pub data AfterFile {A : Type 0} (contents : Contents) (name : List ℕ) (at_fault : Status) (Holds : A → List ℕ → Type 0)
     (IsFaulty : Fault → List ℕ → Type 0) (Next : A → Outcome → Type 0) : Outcome → Type 0 where
   -- the fetch is refused
@@ -27,4 +27,5 @@ pub data AfterFile {A : Type 0} (contents : Contents) (name : List ℕ) (at_faul
 
 -- an order may end so that fetches the file of this name first, and goes on with its core
 abbrev pub AfterCore : Contents → (name : List ℕ) → Basis → (Circuit → Outcome → Type 0) → Outcome → Type 0
-AfterCore contents name basis Next = AfterFile contents name status.Source (bases.Holds basis) (bases.IsFaulty basis) Next
+AfterCore contents name basis Next = AfterFile contents name status.Source (bases.Holds basis)
+    (bases.IsFaulty basis) Next

@@ -16,7 +16,8 @@ pub fn core_of_text<'a>(alloc: Global, name: &'a str, bytes: &[u8]) -> Result<Co
     requires { length bytes.now ≤ MAX_FILE_BYTES }
     ensures core { IfOk result (λ core. IsCoreText core bytes.now) }
     ensures within { IfOk result (λ core. IsSmall core × HasFewColumns core) }
-    ensures refused { IfErr result (λ refusal. IsRefusedFor Status.Source name.now (λ fault. IsFaultyCoreText fault bytes.now) refusal) }
+    ensures refused { IfErr result
+        (λ refusal. IsRefusedFor Status.Source name.now (λ fault. IsFaultyCoreText fault bytes.now) refusal) }
 {
     read_is_written();
     match read_core(alloc, bytes) {

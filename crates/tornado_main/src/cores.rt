@@ -25,10 +25,12 @@ pub fn core_of_file<'a, F: Files>(
     files: &mut F,
 ) -> Result<Core, Refusal<'a>>
     requires { HasFitWidth basis.now }
-    ensures fetched { Fetched F.faults F.too_long F.refused F.fetched F.contents (name.now ∷ []) files.old files.new result }
+    ensures fetched { Fetched F.faults F.too_long F.refused F.fetched F.contents
+        (name.now ∷ []) files.old files.new result }
     ensures core { IfOk result (λ core. FileIs (F.contents files.old) name.now (bases.Holds basis.now core)) }
     ensures within { IfOk result (λ core. IsSmall core × HasFewColumns core) }
-    ensures refused { IfErr result (λ refusal. Stops (AfterCore (F.contents files.old) name.now basis.now Nowhere) refusal) }
+    ensures refused { IfErr result
+        (λ refusal. Stops (AfterCore (F.contents files.old) name.now basis.now Nowhere) refusal) }
 {
     let bytes = fetch(alloc, name, files)?;
     core_of_bytes(alloc, name, basis, bytes.as_slice())
@@ -45,7 +47,8 @@ fn core_of_bytes<'a>(
     requires few { length bytes.now ≤ MAX_FILE_BYTES }
     ensures core { IfOk result (λ core. bases.Holds basis.now core bytes.now) }
     ensures within { IfOk result (λ core. IsSmall core × HasFewColumns core) }
-    ensures refused { IfErr result (λ refusal. IsRefusedFor Status.Source name.now (λ fault. bases.IsFaulty basis.now fault bytes.now) refusal) }
+    ensures refused { IfErr result
+        (λ refusal. IsRefusedFor Status.Source name.now (λ fault. bases.IsFaulty basis.now fault bytes.now) refusal) }
 {
     match basis {
         Basis::Source { width, entry } => {

@@ -12,7 +12,8 @@ pub fn fetch<'a, F: Files>(
     name: &'a str,
     files: &mut F,
 ) -> Result<List<u8>, Refusal<'a>>
-    ensures fetched { Fetched F.faults F.too_long F.refused F.fetched F.contents (name.now ∷ []) files.old files.new result }
+    ensures fetched { Fetched F.faults F.too_long F.refused F.fetched F.contents
+        (name.now ∷ []) files.old files.new result }
     ensures bytes { IfOk result (λ bytes. IsFetched (F.contents files.old) name.now bytes) }
     ensures refused { IfErr result (λ refusal. IsUnread (F.contents files.old) name.now refusal) }
 {

@@ -16,7 +16,8 @@ use std::io;
 use std::process::ExitCode;
 use tor_edge::{Files, Sink};
 
-/// Carries out the order of the arguments of the process, the first of which is the program's name, and answers its exit code.
+/// Carries out the order of the arguments of the process, the first of which is the program's name, and answers its
+/// exit code.
 pub fn run<F: Files, O: Sink, E: Sink>(
     alloc: Global,
     args: io::Result<Args>,
@@ -24,10 +25,13 @@ pub fn run<F: Files, O: Sink, E: Sink>(
     out: &mut O,
     err: &mut E,
 ) -> ExitCode
-    ensures run { IfOk args (λ given. EndsRun F.faults F.too_long F.refused F.fetched O.faults O.written E.faults E.written F.contents
-        (map string_bytes (drop 1 (into_iter_items given))) files.old files.new out.old out.new err.old err.new (exit_status result)) }
+    ensures run { IfOk args
+        (λ given. EndsRun F.faults F.too_long F.refused F.fetched O.faults O.written E.faults E.written F.contents
+        (map string_bytes (drop 1 (into_iter_items given))) files.old files.new out.old out.new err.old err.new
+        (exit_status result)) }
     ensures without_words { IfErr args (λ error. (why : LostWords) × IsReason error why
-        × EndsWithoutWords E.faults E.written files.old files.new out.old out.new err.old err.new why (exit_status result)) }
+        × EndsWithoutWords E.faults E.written files.old files.new out.old out.new err.old err.new why
+        (exit_status result)) }
 {
     match words_of(alloc, args) {
         Ok(words) => exit_code(tornado(alloc, &words, files, out, err)),

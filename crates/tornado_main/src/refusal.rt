@@ -62,7 +62,8 @@ impl Refusal<'_> {
         }
     }
 
-    /// Tells the refusal in its one line, and answers the status with which the run then ends. A fault of the sink changes no status.
+    /// Tells the refusal in its one line, and answers the status with which the run then ends. A fault of the sink
+    /// changes no status.
     pub fn tell<S: Sink>(self, sink: &mut S) -> Status
         ensures status { result ≡ status_of self.entry }
         ensures told { Sent S.faults S.written sink.old sink.new (message_of self.entry) }

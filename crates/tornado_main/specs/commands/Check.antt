@@ -18,14 +18,16 @@ use Rattle.tornado_main.specs.Outcome.{Outcome, answers}
 use Rattle.tornado_main.specs.Steps.{AfterCore}
 use Rattle.tornado_main.specs.declared.status.Status.TheVariants as status
 
--- The attack is that of its leak, a set of the core's columns: it has the leak's derivation, and the unfolding of this, which
--- is an attack on the core with the leak.
+-- The attack is that of its leak, a set of the core's columns: it has the leak's derivation, and the unfolding of
+-- this, which is an attack on the core with the leak.
 pub record IsAttackOfLeak (core : Circuit) (attack : Attack) : Type 0 where
   pub columns : length attack.derivation.leak ≡ length (core_columns core)
-  pub derivation : IsDerivation (products_of (core_view core)) (set_of attack.derivation.leak) attack.derivation.steps attack.derivation.root
+  pub derivation : IsDerivation (products_of (core_view core))
+      (set_of attack.derivation.leak) attack.derivation.steps attack.derivation.root
   pub listing : Lists attack.listing (unfolding_of attack.derivation.steps attack.derivation.root)
   pub is_attack : (t : ℕ)
-      × IsAttack (core_products core) t (named core attack.derivation.leak) (unfolding_of attack.derivation.steps attack.derivation.root)
+      × IsAttack (core_products core) t (named core attack.derivation.leak)
+      (unfolding_of attack.derivation.steps attack.derivation.root)
 
 -- the verdict on a core: `secure` where it has no attack, and else the text of an attack that it has
 pub data IsVerdict (core : Circuit) : Outcome → Type 0 where

@@ -11,7 +11,8 @@ use Rattle.tornado_main.specs.declared.status.Status.TheVariants as status
 
 -- the text of the core with the refreshes of a repair set, for some such set
 abbrev pub IsRepaired : Circuit → Outcome → Type 0
-IsRepaired core end = (repaired : Circuit) × (set : List Bool) × IsRepairOf core repaired set × (end ≡ answers (core_text repaired) status.Done)
+IsRepaired core end = (repaired : Circuit) × (set : List Bool) × IsRepairOf core repaired set
+    × (end ≡ answers (core_text repaired) status.Done)
 
 -- it prints the text of the repaired core
 abbrev pub RepairEnds : Contents → (file : List ℕ) → Basis → Outcome → Type 0

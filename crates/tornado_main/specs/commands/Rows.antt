@@ -10,4 +10,5 @@ use Rattle.tornado_main.specs.declared.status.Status.TheVariants as status
 
 -- it prints the rows of the operands of the core's products
 abbrev pub RowsEnds : Contents → (file : List ℕ) → Basis → Outcome → Type 0
-RowsEnds contents file basis = AfterCore contents file basis (λ core end. end ≡ answers (rows_text (core_view core)) status.Done)
+RowsEnds contents file basis = AfterCore contents file basis
+    (λ core end. end ≡ answers (rows_text (core_view core)) status.Done)

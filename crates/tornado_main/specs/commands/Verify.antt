@@ -41,4 +41,5 @@ pub data IsConfirmation (core : Circuit) (attack : Attack) : Outcome → Type 0 
 abbrev pub VerifyEnds : Contents → (file attack : List ℕ) → Basis → Outcome → Type 0
 VerifyEnds contents file attack basis =
     AfterCore contents file basis (λ core.
-    AfterFile contents attack status.Values (SpellsAttack (core_view core)) (IsFaultyAttack (core_view core)) (IsConfirmation core))
+    AfterFile contents attack status.Values (SpellsAttack (core_view core)) (IsFaultyAttack (core_view core))
+    (IsConfirmation core))

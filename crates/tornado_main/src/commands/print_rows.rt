@@ -24,7 +24,8 @@ pub fn print_rows<'a, F: Files, O: Sink>(
     out: &mut O,
 ) -> Result<Status, Refusal<'a>>
     requires { HasFitWidth basis.now }
-    ensures { Ends F.faults F.too_long F.refused F.fetched F.contents O.faults O.written (file.now ∷ []) (RowsEnds (F.contents files.old) file.now basis.now)
+    ensures { Ends F.faults F.too_long F.refused F.fetched F.contents O.faults O.written (file.now ∷ [])
+        (RowsEnds (F.contents files.old) file.now basis.now)
         files.old files.new out.old out.new result }
 {
     let core = core_of_file(alloc, file, basis, files)?;

@@ -68,11 +68,13 @@ fn attack_of_file<'a, F: Files>(
     view: &View,
     files: &mut F,
 ) -> Result<Attack, Refusal<'a>>
-    ensures fetched { Fetched F.faults F.too_long F.refused F.fetched F.contents (name.now ∷ []) files.old files.new result }
+    ensures fetched { Fetched F.faults F.too_long F.refused F.fetched F.contents
+        (name.now ∷ []) files.old files.new result }
     ensures attack { IfOk result (λ attack. FileIs (F.contents files.old) name.now (SpellsAttack view.now attack)) }
     ensures in_range { IfOk result (λ attack. InRange view.now attack) }
     ensures refused { IfErr result (λ refusal. Stops
-        (AfterFile (F.contents files.old) name.now Status.Values (SpellsAttack view.now) (IsFaultyAttack view.now) Nowhere) refusal) }
+        (AfterFile (F.contents files.old) name.now Status.Values (SpellsAttack view.now)
+        (IsFaultyAttack view.now) Nowhere) refusal) }
 {
     let bytes = fetch(alloc, name, files)?;
     attack_of_bytes(alloc, name, view, bytes.as_slice())
@@ -88,7 +90,8 @@ fn attack_of_bytes<'a>(
     requires { length bytes.now ≤ MAX_FILE_BYTES }
     ensures attack { IfOk result (λ attack. SpellsAttack view.now attack bytes.now) }
     ensures in_range { IfOk result (λ attack. InRange view.now attack) }
-    ensures refused { IfErr result (λ refusal. IsRefusedFor Status.Values name.now (λ fault. IsFaultyAttack view.now fault bytes.now) refusal) }
+    ensures refused { IfErr result
+        (λ refusal. IsRefusedFor Status.Values name.now (λ fault. IsFaultyAttack view.now fault bytes.now) refusal) }
 {
     match read_attack(alloc, view, bytes) {
         Ok(attack) => Ok(attack),

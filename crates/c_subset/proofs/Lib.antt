@@ -1,0 +1,5 @@
+mod Runs
+mod Leaves
+mod ExpressionRuns
+mod StatementRuns
+mod FileRuns

@@ -1,0 +1,4 @@
+pub mod Terminals
+pub mod Expressions
+pub mod Statements
+pub mod Files

@@ -1,0 +1,1 @@
+node f (x:u64) returns (z:u64) vars a:u64x2048 let a[0] = ~x; forall i in [1,2047] { a[i] = ~a[i-1] } z = a[2047] tel

@@ -1,0 +1,1 @@
+node f (x:u64, y:u64) returns (z:u64x255) let z[0] = x & y; forall i in [1,254] { z[i] = z[i-1] & x } tel

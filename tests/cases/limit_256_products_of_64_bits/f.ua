@@ -1,0 +1,1 @@
+node f (x:u64, y:u64) returns (z:u64x256) let z[0] = x & y; forall i in [1,255] { z[i] = z[i-1] & x } tel

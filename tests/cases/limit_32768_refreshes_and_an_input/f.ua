@@ -1,0 +1,1 @@
+node f (x:b1) returns (z:b32768) let forall i in [0,32767] { z[i] = refresh(x, i) } tel

@@ -1,0 +1,1 @@
+node f (x:u64, y:u64) returns (z:u64) vars a:u64x2047 let a[0] = ~x; forall i in [1,2046] { a[i] = ~a[i-1] } z = a[2046] & y tel

@@ -48,7 +48,7 @@ shape_of width n (Some terms) core is =
     let same : core_of_terms width n terms ≡ core = cc is in
     (ap (λ (c : Circuit). c.width) (sym same), ap (λ (c : Circuit). c.inputs) (sym same))
 
-source_shape : (width : ℕ) (source : File) (entry : ℕ) (core : Circuit) → core_of_source width source entry ≡ Some core
+pub source_shape : (width : ℕ) (source : File) (entry : ℕ) (core : Circuit) → core_of_source width source entry ≡ Some core
     → (core.width ≡ width) × (core.inputs ≡ inputs_of source.defs entry)
 source_shape width source entry core is = shape_of width (inputs_of source.defs entry) (source_terms width source entry) core is
 

@@ -1,2 +1,2 @@
 mod LaneRuns
-mod Composing
+pub mod Composing

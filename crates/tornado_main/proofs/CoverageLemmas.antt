@@ -30,6 +30,9 @@ use Rattle.tornado_main.specs.Bases as bases
 use Rattle.tornado_main.specs.CoreText.{IsCoreText, IsFaultyCoreText}
 use Rattle.tornado_main.specs.CoreText as text
 use Rattle.tornado_main.specs.Steps.{AfterFile, not_read, faulty, goes_on}
+use Rattle.std.specs.Prelude.{◌≢◌, IsSome}
+use Rattle.c_print.specs.WordSize.{FitsWord}
+use Rattle.tornado_main.specs.commands.Compile.{IsCompiled, masked, other_width}
 use Rattle.tornado_main.specs.commands.Check.{IsVerdict, IsAttackOfLeak, secure, found}
 use Rattle.tornado_main.specs.commands.Verify.{IsConfirmation, SpellsAttack, IsFaultyAttack, holds, fails, out_of_range, other_core}
 use Rattle.tornado_main.specs.commands.Verify as verify
@@ -61,6 +64,10 @@ confirmation_fits : (core : Circuit) (attack : Attack) (end : Outcome) → IsCon
 confirmation_fits core attack _ (holds does leaks) = inl refl
 confirmation_fits core attack _ (fails not) = inr refl
 
+compiled_fits : (file : List ℕ) (word : Option ℕ) (core : Circuit) (end : Outcome) → IsCompiled file word core end → FitsOutcome end
+compiled_fits file word core _ (masked c_file is) = inl refl
+compiled_fits file word core _ (other_width given other) = inl refl
+
 -- every outcome of an order has a status of its kind
 pub order_fits : (contents : Contents) (o : Order) (end : Outcome) → OrderEnds contents o end → FitsOutcome end
 order_fits contents (order.Core file basis) = after_fits contents file exit.Source _ _ _ (inl refl) (λ core end. done_fits _ end)
@@ -71,13 +78,13 @@ order_fits contents (order.Verify file attack basis) =
 order_fits contents (order.Eval file values basis) = λ end ends. absurd ends
 order_fits contents (order.Repair file basis) =
     after_fits contents file exit.Source _ _ _ (inl refl) (λ core end repaired. done_fits _ end repaired.3)
-order_fits contents (order.Compile file word basis) = λ end ends. absurd ends
+order_fits contents (order.Compile file word basis) = after_fits contents file exit.Source _ _ _ (inl refl) (compiled_fits file word)
 order_fits contents (order.Run cfile values) = λ end ends. absurd ends
 order_fits contents (order.Trial file shares seed basis) = λ end ends. absurd ends
 order_fits contents (order.Gen seed size) = λ end told. done_fits _ end told.2
 
 -- where the contents are told, two fetches of a name answer the same bytes
-same_bytes : (file : List ℕ → Option (List ℕ)) (name a b : List ℕ) → IsFetched (Some file) name a → IsFetched (Some file) name b → a ≡ b
+pub same_bytes : (file : List ℕ → Option (List ℕ)) (name a b : List ℕ) → IsFetched (Some file) name a → IsFetched (Some file) name b → a ≡ b
 same_bytes file name a b x y =
     let p : file name ≡ Some a = x.told in
     let q : file name ≡ Some b = y.told in
@@ -117,7 +124,7 @@ done_one : (text : List ℕ) → HaveOneStatus (λ end. end ≡ answers text exi
 done_one text end other s t x y hs ht = answers_one text text end other s t x y hs ht
 
 -- the attack of a leak is an attack
-has_attack : (core : Circuit) (attack : Attack) → IsAttackOfLeak core attack → HasAttack (core_products core)
+pub has_attack : (core : Circuit) (attack : Attack) → IsAttackOfLeak core attack → HasAttack (core_products core)
 has_attack core attack is =
     (named core attack.derivation.leak, (is.is_attack.0, unfolding_of attack.derivation.steps attack.derivation.root, is.is_attack.1))
 
@@ -132,6 +139,17 @@ confirmation_one core attack _ _ s t (holds does leaks) (holds does' leaks') hs 
 confirmation_one core attack _ _ s t (holds does leaks) (fails not) hs ht = absurd (not does)
 confirmation_one core attack _ _ s t (fails not) (holds does leaks) hs ht = absurd (not does)
 confirmation_one core attack _ _ s t (fails not) (fails not') hs ht = sym hs ∙ ht
+
+-- a core is compiled, or it is refused for its width
+only_width_1 : (word : Option ℕ) (core : Circuit) → IsSome word → core.width ≢ 1 → ¬ FitsWord word core
+only_width_1 None core given other fits = absurd (cc given)
+only_width_1 (Some size) core given other fits = other fits.0
+
+compiled_one : (file : List ℕ) (word : Option ℕ) (core : Circuit) → HaveOneStatus (IsCompiled file word core)
+compiled_one file word core _ _ s t (masked c is) (masked c' is') hs ht = sym hs ∙ ht
+compiled_one file word core _ _ s t (masked c is) (other_width given other) hs ht = absurd (only_width_1 word core given other is.fits)
+compiled_one file word core _ _ s t (other_width given other) (masked c is) hs ht = absurd (only_width_1 word core given other is.fits)
+compiled_one file word core _ _ s t (other_width given other) (other_width given' other') hs ht = sym hs ∙ ht
 
 -- a text spells one attack, and none where it has a fault
 attack_one : (view : LinearView) (bytes : List ℕ) (a b : Attack) → SpellsAttack view a bytes → SpellsAttack view b bytes → a ≡ b
@@ -209,7 +227,7 @@ module _ (one_file : (bytes : List ℕ) (first second : File) → SpellsFile byt
     (no_fault : (bytes : List ℕ) (file : File) (fault : SourceFault) → SpellsFile bytes file → ¬ HasFault bytes fault)
     (written_is_read : WrittenIsRead) where
   -- a file has one core, and none where it has a fault
-  held_one : (b : Basis) (bytes : List ℕ) (x y : Circuit) → bases.Holds b x bytes → bases.Holds b y bytes → x ≡ y
+  pub held_one : (b : Basis) (bytes : List ℕ) (x y : Circuit) → bases.Holds b x bytes → bases.Holds b y bytes → x ≡ y
   held_one (basis.Source width entry) = source_one one_file no_fault width entry
   held_one basis.CoreText = text_one written_is_read
 
@@ -229,7 +247,7 @@ module _ (one_file : (bytes : List ℕ) (first second : File) → SpellsFile byt
   order_one file (order.Repair name b) =
       after_one file name exit.Source _ _ _ (held_one b) (held_apart b)
       (λ core end other s t x y hs ht. answers_one _ _ end other s t x.3 y.3 hs ht)
-  order_one file (order.Compile name word b) = λ end other s t x y hs ht. absurd x
+  order_one file (order.Compile name word b) = after_one file name exit.Source _ _ _ (held_one b) (held_apart b) (compiled_one name word)
   order_one file (order.Run cfile values) = λ end other s t x y hs ht. absurd x
   order_one file (order.Trial name shares seed b) = λ end other s t x y hs ht. absurd x
   order_one file (order.Gen seed size) = λ end other s t x y hs ht. answers_one _ _ end other s t x.2 y.2 hs ht

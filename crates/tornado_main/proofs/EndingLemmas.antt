@@ -35,6 +35,13 @@ pub so_refused : {T : Type 0} (P : Result T Refusal → Type 0) (e : Refusal) (r
 so_refused P e (Ok x) same h = absurd same
 so_refused P e (Err k) same h = subst (λ (x : Refusal). P (Err x)) (sym same) h
 
+-- a refusal for what was read, or for want of memory
+abbrev pub IsOfWhatWasRead : Refusal → Type 0
+IsOfWhatWasRead (refusal.Faulty status name fault) = Unit {0}
+IsOfWhatWasRead (refusal.Unread name why) = ⊥
+IsOfWhatWasRead refusal.Unwritten = ⊥
+IsOfWhatWasRead refusal.Memory = Unit {0}
+
 -- the names of two steps, one after the other
 takes_later : {T : Type 0} (xs ys before mid now : List (List ℕ)) → mid ≡ before ++ xs → (r : Result T Refusal)
     → Takes ys mid now r → Takes (xs ++ ys) before now r
@@ -116,6 +123,32 @@ module _ {F O : Type 0} {faults too_long : F → ℕ} {last_refused : F → Opti
   stopped {out = out} {taken = taken} left e {r = r} is same step stops =
       so_refused (λ r. Ends faults too_long last_refused fetched contents out_faults out_written names May old new out out r) e r is
       (stopped_at taken left e same step stops)
+
+  refused_at : {T : Type 0} {out : O} {x : T} (e : Refusal) → IsOfWhatWasRead e
+      → Fetched faults too_long last_refused fetched contents names old new (Ok x) → Stops May e
+      → Ends faults too_long last_refused fetched contents out_faults out_written names May old new out out (Err e)
+  refused_at (refusal.Faulty status name fault) kind step stops = record {
+    contents_stay = step.contents_stay;
+    fetches = record { taken = names; left = []; in_order = append-nil names; fetched = step.takes };
+    refuses = step.refuses;
+    shown = (stops, refl);
+  }
+  refused_at (refusal.Unread name why) kind step stops = absurd kind
+  refused_at refusal.Unwritten kind step stops = absurd kind
+  refused_at refusal.Memory kind step stops = record {
+    contents_stay = step.contents_stay;
+    fetches = record { taken = names; left = []; in_order = append-nil names; fetched = step.takes };
+    refuses = step.refuses;
+    shown = refl;
+  }
+
+  -- the order is refused for what was read, or memory is wanting
+  pub refused_after : {T : Type 0} {out : O} {x : T} (e : Refusal) {r : Result Status Refusal} → IsErrAnd r (λ k. k ≡ e) → IsOfWhatWasRead e
+      → Fetched faults too_long last_refused fetched contents names old new (Ok x) → Stops May e
+      → Ends faults too_long last_refused fetched contents out_faults out_written names May old new out out r
+  refused_after {out = out} e {r = r} is kind step stops =
+      so_refused (λ r. Ends faults too_long last_refused fetched contents out_faults out_written names May old new out out r) e r is
+      (refused_at e kind step stops)
 
   -- memory is wanting after these steps
   pub no_memory : {T : Type 0} {out : O} {taken : List (List ℕ)} (left : List (List ℕ)) {x : T} {r : Result Status Refusal}

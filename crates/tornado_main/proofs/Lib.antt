@@ -9,3 +9,5 @@ pub mod SourceLemmas
 pub mod RunLemmas
 pub mod VerdictLemmas
 pub mod GenLemmas
+mod CompileLemmas
+pub mod HeadlineLemmas

@@ -15,3 +15,4 @@ pub mod Coverage
 pub mod Refusals
 pub mod Ending
 pub mod Process
+pub mod Headline

@@ -46,6 +46,7 @@ complaint_text complaint.ColumnsTooMany = codes "too many columns"
 complaint_text complaint.LimitPassed = codes "limit passed"
 complaint_text complaint.OutOfRange = codes "out of range"
 complaint_text complaint.OtherCore = codes "another core"
+complaint_text complaint.WordSize = codes "word size needs width 1"
 
 -- where a file is at fault, behind its name: nothing of the file as a whole, a line, a line and a column, or the
 -- number of a call

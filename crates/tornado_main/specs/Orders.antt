@@ -7,6 +7,7 @@ use Rattle.tornado_main.specs.commands.Check.{CheckEnds}
 use Rattle.tornado_main.specs.commands.Verify.{VerifyEnds}
 use Rattle.tornado_main.specs.commands.Repair.{RepairEnds}
 use Rattle.tornado_main.specs.commands.Gen.{GenEnds}
+use Rattle.tornado_main.specs.commands.Compile.{CompileEnds}
 use Rattle.tornado_words.specs.declared.order.Order.{Order}
 use Rattle.tornado_words.specs.declared.order.Order.TheVariants as order
 
@@ -18,4 +19,5 @@ OrderEnds contents (order.Check file basis) = CheckEnds contents file basis
 OrderEnds contents (order.Verify file attack basis) = VerifyEnds contents file attack basis
 OrderEnds contents (order.Repair file basis) = RepairEnds contents file basis
 OrderEnds contents (order.Gen seed size) = GenEnds seed size
+OrderEnds contents (order.Compile file word basis) = CompileEnds contents file word basis
 OrderEnds contents _ = λ end. ⊥

@@ -5,3 +5,4 @@ pub mod Check
 pub mod Verify
 pub mod Repair
 pub mod Gen
+pub mod Compile

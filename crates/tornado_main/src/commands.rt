@@ -7,6 +7,7 @@ ghost use Rattle.tornado_words.specs.Ranges.{IsInRange};
 ghost use Rattle.tornado_main.specs.Words.{is_built, files_of};
 
 mod check;
+mod compile;
 mod generate;
 mod print_core;
 mod print_repaired;
@@ -56,6 +57,14 @@ pub fn carry_out<'a, F: Files, O: Sink>(
             print_repaired::print_repaired(alloc, file.as_str(), basis, files, out)
         }
         Order::Gen { seed, size } => generate::generate(alloc, *seed, *size, out),
+        Order::Compile { file, word, basis } => compile::compile(
+            alloc,
+            file.as_str(),
+            *word,
+            basis,
+            files,
+            out,
+        ),
         _ => unreachable!(),
     }
 }

@@ -23,6 +23,7 @@ pub enum Complaint {
     LimitPassed,
     OutOfRange,
     OtherCore,
+    WordSize,
 }
 
 /// Where in a file something is wrong.
@@ -64,6 +65,7 @@ impl Complaint {
             Complaint::LimitPassed => "limit passed",
             Complaint::OutOfRange => "out of range",
             Complaint::OtherCore => "another core",
+            Complaint::WordSize => "word size needs width 1",
         }
     }
 }

@@ -28,6 +28,6 @@ fn is_built(order: &Order) -> bool
 {
     !matches!(
         order,
-        Order::Eval { .. } | Order::Compile { .. } | Order::Run { .. } | Order::Trial { .. }
+        Order::Eval { .. } | Order::Run { .. } | Order::Trial { .. }
     )
 }

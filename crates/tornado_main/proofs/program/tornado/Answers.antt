@@ -1,10 +1,7 @@
-use Rattle.std.proofs.Common.{refl}
-use Rattle.tornado_main.proofs.RunLemmas.{run_answered, run_refused}
+use Rattle.tornado_main.proofs.HeadlineLemmas.{headline}
 use Rattle.tornado_main.proofs.program.tornado.Goals as goal
 
-pub returns-in-Ok : goal.returns-in-Ok
-returns-in-Ok g c =
-    run_refused c.in-Ok.order c.in-Err.refusal c.tell.result c.tell.ensures.status c.in-Ok.ensures.order c.in-Err.ensures c.tell.ensures.told
-
-pub returns-in-Ok-carry_out : goal.returns-in-Ok-carry_out
-returns-in-Ok-carry_out g c = run_answered c.in-Ok.order c.in-Ok-carry_out.status c.in-Ok.ensures.order refl c.in-Ok-carry_out.ensures
+pub returns-clause-headline : goal.returns-clause-headline
+returns-clause-headline g c =
+    headline c.one_source.ensures.file c.one_source.ensures.apart c.written_is_read.ensures c.masked_code_computes_the_core.ensures c.masked_code_computes_the_source.ensures
+    c.masked_lanes_compute_the_source.ensures c.lanes_are_runs.ensures c.run_words.ensures

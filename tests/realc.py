@@ -157,18 +157,28 @@ def orders_of(program):
                 yield f"{example.name}, --word {size}", asked
 
 
+def compilers_there():
+    """The compilers that are there, with a line for each that is not."""
+    there = [compiler for compiler in COMPILERS if shutil.which(compiler)]
+    for compiler in COMPILERS:
+        if compiler not in there:
+            print(f"real C is not tried with {compiler}, which is not there")
+    return there
+
+
 def cases(program):
     """Each case's name, with how it is run; a line for what is not tried."""
     if not takes_words(program, ["compile", str(TOP / "examples" / "majority.ua")]):
         print("real C is not tried: the program has no command compile")
         return {}
-    for compiler in COMPILERS:
-        if not shutil.which(compiler):
-            print(f"real C is not tried with {compiler}, which is not there")
-    there = [compiler for compiler in COMPILERS if shutil.which(compiler)]
-    orders = list(orders_of(program)) if there else []
+    there = compilers_there()
     page = f"docs/{PAGE.name}"
-    return {f"real C: {compiler} {page}": functools.partial(run_page, program, compiler) for compiler in there} | {
+    pages = {f"real C: {compiler} {page}": functools.partial(run_page, program, compiler) for compiler in there}
+    if not takes_words(program, ["run", "no_file", "no_data"]):
+        print("printed C is not compared with run: the program has no command run")
+        return pages
+    orders = list(orders_of(program)) if there else []
+    return pages | {
         f"real C: {compiler} {name}": functools.partial(run_text, program, compiler, words)
         for name, words in orders
         for compiler in there

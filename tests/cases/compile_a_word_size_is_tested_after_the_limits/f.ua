@@ -1,0 +1,1 @@
+node f (x:u8x4097) returns (z:u8) let z = x[0] tel

@@ -1,0 +1,1 @@
+node f (x:u17, y:u17) returns (z:u17) let z = (x & y) <<< 1 tel

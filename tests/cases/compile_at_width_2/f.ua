@@ -1,0 +1,1 @@
+node f (x:u2, y:u2) returns (z:u2) let z = (x & y) <<< 1 tel

@@ -1,0 +1,1 @@
+node f (x:u33, y:u33) returns (z:u33) let z = (x & y) <<< 1 tel

@@ -1,0 +1,1 @@
+node f (x:u9, y:u9) returns (z:u9) let z = (x & y) <<< 1 tel

@@ -1,0 +1,1 @@
+node f (x:u16) returns (z:u16) let z = x <<< 0 tel

@@ -141,7 +141,7 @@ confirmation_one core attack _ _ s t (fails not) (holds does leaks) hs ht = absu
 confirmation_one core attack _ _ s t (fails not) (fails not') hs ht = sym hs ∙ ht
 
 -- a core is compiled, or it is refused for its width
-only_width_1 : (word : Option ℕ) (core : Circuit) → IsSome word → core.width ≢ 1 → ¬ FitsWord word core
+pub only_width_1 : (word : Option ℕ) (core : Circuit) → IsSome word → core.width ≢ 1 → ¬ FitsWord word core
 only_width_1 None core given other fits = absurd (cc given)
 only_width_1 (Some size) core given other fits = other fits.0
 
@@ -231,7 +231,7 @@ module _ (one_file : (bytes : List ℕ) (first second : File) → SpellsFile byt
   held_one (basis.Source width entry) = source_one one_file no_fault width entry
   held_one basis.CoreText = text_one written_is_read
 
-  held_apart : (b : Basis) (bytes : List ℕ) (x : Circuit) (fault : Fault) → bases.Holds b x bytes → ¬ bases.IsFaulty b fault bytes
+  pub held_apart : (b : Basis) (bytes : List ℕ) (x : Circuit) (fault : Fault) → bases.Holds b x bytes → ¬ bases.IsFaulty b fault bytes
   held_apart (basis.Source width entry) = source_apart one_file no_fault width entry
   held_apart basis.CoreText = text_apart written_is_read
 

@@ -29,18 +29,19 @@ use Rattle.tornado_words.specs.declared.order.Order.{Order}
 use Rattle.tornado_words.specs.declared.order.Order.TheVariants as order
 use Rattle.tornado_main.specs.Bases as bases
 use Rattle.tornado_main.specs.Files.{Contents, IsFetched}
-use Rattle.tornado_main.specs.Headline.{IsAccepted, ChecksExactly, IsSharedInput, AnswersValues, source_gives, core_gives, Computes, CompilesExactly, Headline}
+use Rattle.tornado_main.specs.Headline.{IsAccepted, ChecksExactly, IsSharedInput, AnswersValues, source_gives, core_gives, IsNoRefusal, Computes, CompilesExactly, Headline}
 use Rattle.tornado_main.specs.Outcome.{Outcome, answers, refused, unread}
 use Rattle.tornado_main.specs.Source.{HasCore}
 use Rattle.tornado_main.specs.Orders.{OrderEnds}
 use Rattle.tornado_main.specs.Run.{WroteAnswer, Shows, IsRun}
 use Rattle.tornado_main.specs.Steps.{AfterCore, AfterFile, not_read, faulty, goes_on}
+use Rattle.tornado_main.specs.Words.{order_of}
 use Rattle.tornado_main.specs.commands.Check.{CheckEnds, IsVerdict, IsAttackOfLeak, secure, found}
 use Rattle.tornado_main.specs.commands.Compile.{CompileEnds, IsCompiled, IsMaskedC, masked, other_width}
 use Rattle.tornado_main.specs.declared.message.Fault.{Fault}
 use Rattle.tornado_main.specs.declared.status.Status.{Status}
 use Rattle.tornado_main.specs.declared.status.Status.TheVariants as exit
-use Rattle.tornado_main.proofs.CoverageLemmas.{WrittenIsRead, held_one, same_bytes, has_attack}
+use Rattle.tornado_main.proofs.CoverageLemmas.{WrittenIsRead, held_one, held_apart, same_bytes, has_attack, only_width_1}
 
 -- what is said of answers alone
 abbrev IsAnswer : Outcome → Type 0
@@ -56,6 +57,35 @@ after_answer contents name at_fault Held IsFaulty Next _ (not_read why may) is =
 after_answer contents name at_fault Held IsFaulty Next _ (faulty bytes fault fetched has) is = absurd is
 after_answer contents name at_fault Held IsFaulty Next end (goes_on bytes held _ fetched holds next) is = (bytes, held, fetched, holds, next)
 
+-- no refusal of a file
+abbrev pub IsNoFault : Outcome → Type 0
+IsNoFault (answers text status) = Unit {0}
+IsNoFault (refused status name fault) = ⊥
+IsNoFault (unread name why) = Unit {0}
+
+verdict_no_fault : (core : Circuit) (end : Outcome) → IsVerdict core end → IsNoFault end
+verdict_no_fault core _ (secure none) = tt
+verdict_no_fault core _ (found attack is) = tt
+
+compiled_no_fault : (file : List ℕ) (word : Option ℕ) (core : Circuit) → FitsWord word core → (end : Outcome) → IsCompiled file word core end → IsNoFault end
+compiled_no_fault file word core fits _ (masked c_file is) = tt
+compiled_no_fault file word core fits _ (other_width given other) = absurd (only_width_1 word core given other fits)
+
+-- words with an order are not without one
+no_order : (words : List (List ℕ)) (o : Order) → order_of words ≡ Some o → order_of words ≡ None → ⊥
+no_order words o some none = cc (some, none)
+
+-- a status that is that of no refusal
+no_refusal : (status : Status) → (status ≡ exit.Usage → ⊥) → (status ≡ exit.Source → ⊥) → (status ≡ exit.Values → ⊥) → IsNoRefusal status
+no_refusal exit.Done a b c = tt
+no_refusal exit.Found a b c = tt
+no_refusal exit.Usage a b c = a refl
+no_refusal exit.Source a b c = b refl
+no_refusal exit.Unread a b c = tt
+no_refusal exit.Unwritten a b c = tt
+no_refusal exit.Memory a b c = tt
+no_refusal exit.Values a b c = c refl
+
 -- what a verdict says
 abbrev pub VerdictSays : Circuit → Outcome → Type 0
 VerdictSays core (answers text exit.Done) = (¬ HasAttack (core_products core)) × (text ≡ codes "secure\n")
@@ -70,6 +100,7 @@ verdict_says core _ (found attack is) = (has_attack core attack is, attack, is, 
 -- what compiled C is
 abbrev pub CompiledSays : Circuit → Option ℕ → Outcome → Type 0
 CompiledSays core word (answers text exit.Done) = (c_file : CFile) × IsMaskedC core word c_file × (text ≡ c_text c_file)
+CompiledSays core word (answers text exit.Found) = ⊥
 CompiledSays core word _ = Unit {0}
 
 pub compiled_says : (file : List ℕ) (word : Option ℕ) (core : Circuit) (end : Outcome) → IsCompiled file word core end → CompiledSays core word end
@@ -159,12 +190,28 @@ module _ (one_file : (bytes : List ℕ) (first second : File) → SpellsFile byt
       let one : it.1 ≡ core = held_one one_file no_fault written_is_read read_as bytes it.1 core (subst (bases.Holds read_as it.1) same it.3) accepted.holds in
       subst (λ (c : Circuit). Next c (answers text status)) one it.4
 
+  -- an accepted file is not refused, where its core is not
+  no_fault_after : (contents : Contents) (name : List ℕ) (read_as : Basis) (core : Circuit) (bytes : List ℕ) → IsAccepted contents name read_as core bytes
+      → (Next : Circuit → Outcome → Type 0) → ((end : Outcome) → Next core end → IsNoFault end)
+      → (end : Outcome) → AfterCore contents name read_as Next end → IsNoFault end
+  no_fault_after contents name read_as core bytes accepted Next next _ (not_read why may) = tt
+  no_fault_after contents name read_as core bytes accepted Next next _ (faulty other fault fetched has) =
+      let told : IsFetched (Some accepted.files) name other = subst (λ (c : Contents). IsFetched c name other) accepted.told fetched in
+      let same : other ≡ bytes = same_bytes accepted.files name other bytes told (record { within = accepted.within; told = accepted.held }) in
+      absurd (held_apart one_file no_fault written_is_read read_as bytes core fault accepted.holds (subst (bases.IsFaulty read_as fault) same has))
+  no_fault_after contents name read_as core bytes accepted Next next end (goes_on other held _ fetched holds after) =
+      let told : IsFetched (Some accepted.files) name other = subst (λ (c : Contents). IsFetched c name other) accepted.told fetched in
+      let same : other ≡ bytes = same_bytes accepted.files name other bytes told (record { within = accepted.within; told = accepted.held }) in
+      let one : held ≡ core = held_one one_file no_fault written_is_read read_as bytes held core (subst (bases.Holds read_as held) same holds) accepted.holds in
+      next end (subst (λ (c : Circuit). Next c end) one after)
+
   module _ (contents : Contents) (before now : Option (List ℕ)) where
     checks : (name : List ℕ) (read_as : Basis) (core : Circuit) (bytes : List ℕ) → IsAccepted contents name read_as core bytes → (status : Status)
-        → (status ≡ exit.Found → WroteAnswer (CheckEnds contents name read_as) exit.Found before now)
+        → IsNoRefusal status → (status ≡ exit.Found → WroteAnswer (CheckEnds contents name read_as) exit.Found before now)
         → (status ≡ exit.Done → WroteAnswer (CheckEnds contents name read_as) exit.Done before now)
         → ChecksExactly core before now status
-    checks name read_as core bytes accepted status with_found with_done = record {
+    checks name read_as core bytes accepted status answered with_found with_done = record {
+      answered = answered;
       found = λ is.
           let wrote = with_found is in
           let says = verdict_says core (answers wrote.text exit.Found) (of_its_core contents name read_as core bytes accepted IsVerdict wrote.text exit.Found wrote.allowed) in
@@ -195,17 +242,32 @@ module _ (one_file : (bytes : List ℕ) (first second : File) → SpellsFile byt
       → IsRun faults too_long last_refused fetched out_faults out_written err_faults err_written contents words files_old files_new out_old out_new err_old err_new status
       → Headline (contents files_old) words (out_written out_old) (out_written out_new) status
   headline over_cores over_sources over_lanes lanes {faults = faults} {too_long = too_long} {last_refused = last_refused} {fetched = fetched} {out_faults = out_faults}
-      {out_written = out_written} {err_faults = err_faults} {err_written = err_written} {contents = contents} {files_old = files_old} {files_new = files_new}
+      {out_written = out_written} {err_faults = err_faults} {err_written = err_written} {contents = contents} {words = words} {files_old = files_old} {files_new = files_new}
       {out_old = out_old} {out_new = out_new} {err_old = err_old} {err_new = err_new} {status = status} run =
       let shows : (o : Order) → Status → Type 0 = λ o s. Shows faults too_long last_refused fetched out_faults out_written err_faults err_written
       (OrderEnds (contents files_old) o) files_old files_new out_old out_new err_old err_new s in
+      let kept : (o : Order) → order_of words ≡ Some o → ((end : Outcome) → OrderEnds (contents files_old) o end → IsNoFault end) → IsNoRefusal status =
+      λ o asked never.
+      no_refusal status (λ is. no_order words o asked (run.usage is))
+      (λ is. let told = (subst (shows o) is (run.ends o asked)).0 in never (refused exit.Source told.name told.fault) told.allowed)
+      (λ is. let told = (subst (shows o) is (run.ends o asked)).0 in never (refused exit.Values told.name told.fault) told.allowed) in
       record {
         check = λ name read_as core bytes asked accepted.
             let ends = run.ends (order.Check name read_as) asked in
-            checks (contents files_old) (out_written out_old) (out_written out_new) name read_as core bytes accepted status
+            let answered = kept (order.Check name read_as) asked
+            (no_fault_after (contents files_old) name read_as core bytes accepted IsVerdict (verdict_no_fault core)) in
+            checks (contents files_old) (out_written out_old) (out_written out_new) name read_as core bytes accepted status answered
             (λ is. (subst (shows (order.Check name read_as)) is ends).0) (λ is. (subst (shows (order.Check name read_as)) is ends).0);
         compile = λ name word read_as core bytes asked accepted is.
             let ends = run.ends (order.Compile name word read_as) asked in
             compiles (contents files_old) (out_written out_old) (out_written out_new) over_cores over_sources over_lanes lanes name word read_as core bytes accepted
             (subst (shows (order.Compile name word read_as)) is ends).0;
+        compile_answered = λ name word read_as core bytes asked accepted fits. (
+          kept (order.Compile name word read_as) asked
+              (no_fault_after (contents files_old) name read_as core bytes accepted (IsCompiled name word) (compiled_no_fault name word core fits)),
+          λ is.
+              let wrote = (subst (shows (order.Compile name word read_as)) is (run.ends (order.Compile name word read_as) asked)).0 in
+              compiled_says name word core (answers wrote.text exit.Found)
+              (of_its_core (contents files_old) name read_as core bytes accepted (IsCompiled name word) wrote.text exit.Found wrote.allowed),
+        );
       }

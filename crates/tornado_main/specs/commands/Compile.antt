@@ -15,8 +15,8 @@ use Rattle.tornado_main.specs.declared.message.Complaint.TheVariants as complain
 use Rattle.tornado_main.specs.declared.message.Spot.TheVariants as spot
 use Rattle.tornado_main.specs.declared.status.Status.TheVariants as status
 
--- the file of C is the masked form of the core with the refreshes of a repair set, for words of the bits that are asked for or
--- those of the core
+-- the file of C is the masked form of the core with the refreshes of a repair set, for words of the bits that are
+-- asked for or those of the core
 pub record IsMaskedC (core : Circuit) (word : Option ℕ) (c_file : CFile) : Type 0 where
   pub is_core : IsCore core
   pub fits : FitsWord word core
@@ -26,7 +26,8 @@ pub record IsMaskedC (core : Circuit) (word : Option ℕ) (c_file : CFile) : Typ
 
 -- the C of a core; a word size may be asked for at width 1 alone
 pub data IsCompiled (file : List ℕ) (word : Option ℕ) (core : Circuit) : Outcome → Type 0 where
-  masked : (c_file : CFile) → IsMaskedC core word c_file → IsCompiled file word core (answers (c_text c_file) status.Done)
+  masked : (c_file : CFile) → IsMaskedC core word c_file
+      → IsCompiled file word core (answers (c_text c_file) status.Done)
   other_width : IsSome word → core.width ≢ 1
       → IsCompiled file word core (refused status.Source file (record { at = spot.Whole; what = complaint.WordSize }))
 

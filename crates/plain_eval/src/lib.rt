@@ -3,4 +3,5 @@
 
 mod source;
 
+pub use data_text::{ValueFault, read_values};
 pub use source::eval;

@@ -3,4 +3,5 @@ pub mod ColumnNames
 pub mod RefreshedRows
 pub mod RefreshedProducts
 pub mod Attacks
-pub mod Narrowing
+pub mod Repairs
+pub mod LeftOut

@@ -1,3 +1,2 @@
 pub mod RepairSet
 pub mod RefreshedAttacks
-pub mod State

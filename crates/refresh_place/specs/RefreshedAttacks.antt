@@ -1,10 +1,11 @@
 -- The laws of the attacks on refreshed cores.
 use Rattle.std.specs.Prelude.{◌≡◌, ◌<◌, ◌↔◌, ℕ, Bool, true, false}
 use Rattle.span_model.specs.Attack.{HasAttack}
-use Rattle.span_model.specs.Refresh.{refreshed, IsWithin}
+use Rattle.span_model.specs.Refresh.{refreshed, left_out, IsWithin}
 use Rattle.span_model.specs.Renaming.{AreRenamed}
 use Rattle.usuba0.specs.Circuit.{Circuit, IsCore, products_of}
-use Rattle.linear_view.specs.Rows.{core_products}
+use Rattle.linear_view.specs.Rows.{core_products, core_view}
+use Rattle.linear_view.specs.View as view
 use Rattle.core_refresh.specs.RefreshedCore.{refreshed_core}
 use Rattle.refresh_place.specs.RepairSet.{IsAttackedWith}
 
@@ -24,3 +25,9 @@ pub record AttacksOnRefreshedCores : Type 0 where
       → IsAttackedWith core set → IsAttackedWith core less
   pub none_refreshed : (core : Circuit) → IsCore core
       → IsAttackedWith core (λ _. false) ↔ HasAttack (core_products core)
+
+-- with a set refreshed a core has an attack exactly where the products of its view have one without those of the set
+abbrev pub LeftOutOfView : Type 0
+LeftOutOfView =
+    (core : Circuit) (set : ℕ → Bool) → IsCore core
+    → IsAttackedWith core set ↔ HasAttack (left_out set (view.products_of (core_view core)))

@@ -1,8 +1,9 @@
-ghost use Rattle.refresh_place.specs.RefreshedAttacks.{RefreshedCoresAreRefreshed, AttacksOnRefreshedCores};
+ghost use Rattle.refresh_place.specs.RefreshedAttacks.{RefreshedCoresAreRefreshed, AttacksOnRefreshedCores, LeftOutOfView};
 
 use linear_view::{Column, core_view_size};
 use span_model::{
-    all_refreshed_is_secure, attack_stays_with_fewer, none_refreshed_is_same, refreshed_under_names,
+    all_refreshed_is_secure, attack_stays_with_fewer, none_refreshed_is_same,
+    refreshed_is_left_out, refreshed_under_names, renaming_keeps_attacks,
 };
 
 /// The products of a refreshed core are refreshed products.
@@ -20,4 +21,15 @@ pub fn attacks_on_refreshed_cores()
     attack_stays_with_fewer::<Column>();
     none_refreshed_is_same::<Column>();
     core_view_size();
+}
+
+/// The attacks on a refreshed core are those on the core's view without the products of the set.
+pub fn left_out_of_view()
+    ensures { LeftOutOfView }
+{
+    refreshed_cores_are_refreshed();
+    refreshed_under_names::<Column, Column>();
+    refreshed_is_left_out::<Column>();
+    renaming_keeps_attacks::<Column, u32>();
+    renaming_keeps_attacks::<u32, Column>();
 }

@@ -4,5 +4,5 @@
 mod laws;
 mod repairing;
 
-pub use laws::{attacks_on_refreshed_cores, refreshed_cores_are_refreshed};
+pub use laws::{attacks_on_refreshed_cores, left_out_of_view, refreshed_cores_are_refreshed};
 pub use repairing::{Repaired, repair};

@@ -7,3 +7,6 @@ pub mod Passes
 pub mod Pending
 pub mod Taking
 pub mod Verdicts
+mod Leaving
+mod Settling
+mod Raising

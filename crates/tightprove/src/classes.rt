@@ -178,8 +178,8 @@ fn add_class(
     Ok(())
 }
 
-// The number of the class with the span of the rows, which is added where there is none.
-fn place(
+/// The number of the class with the span of the rows, which is added where there is none.
+pub(crate) fn place(
     alloc: Global,
     columns: u32,
     list: &mut Vec<Class>,
@@ -208,8 +208,8 @@ fn place(
     }
 }
 
-// Notes that operands of class i stand beside operands of class j.
-fn add_partner(list: &mut Vec<Class>, i: usize, j: usize) -> Result<(), AllocError>
+/// Notes that operands of class i stand beside operands of class j.
+pub(crate) fn add_partner(list: &mut Vec<Class>, i: usize, j: usize) -> Result<(), AllocError>
     requires i { i < length list.old.items }
     ensures length { length list.new.items ≡ length list.old.items }
     ensures rows { (k : ℕ) → (class_at list.new.items k).rows ≡ (class_at list.old.items k).rows }

@@ -4,13 +4,17 @@
 //! over whole spans of candidates at a time.
 #![tactic(auto)]
 
+mod bounds;
 mod class;
 mod classes;
+mod gathered;
 mod growth;
 mod known;
+mod leaving_out;
 mod pieces;
 mod searches;
 mod split;
 mod tasks;
 
+pub use leaving_out::least_left_out;
 pub use searches::{Verdict, leaks, search};

@@ -1,4 +1,4 @@
-use Rattle.refresh_place.proofs.Narrowing.{is_repair_as}
+use Rattle.refresh_place.proofs.Repairs.{is_repair_as}
 use Rattle.refresh_place.proofs.repairing.repair.Goals as goal
 
 pub returns : goal.returns

@@ -1,12 +1,13 @@
-use Rattle.std.proofs.Common.{arith}
-use Rattle.refresh_place.proofs.Narrowing.{narrowed_start}
+use Rattle.std.proofs.Common.{◌∙◌}
+use Rattle.core_refresh.specs.RefreshedCore.{marked}
+use Rattle.refresh_place.proofs.Repairs.{view_count, least_repairs}
 use Rattle.refresh_place.proofs.repairing.repair_set.Goals as goal
 
-pub loop-k-init : goal.loop-k-init
-loop-k-init c =
-    record {
-      narrowed = narrowed_start c.attacks_on_refreshed_cores.ensures c.args.core.now c.width-width.ensures.core c.products-count.result c.in_ok-set.set.items
-          c.products-count.ensures (c.in_ok-set.ensures.items_if_clones_equal (λ y h. h));
-      within = omega arith;
-      some = λ h. h;
-    }
+pub returns-clause-marks : goal.returns-clause-marks
+returns-clause-marks c =
+    c.in_ok-set.ensures.marks ∙ view_count c.core_view_size.ensures c.args.core.now c.in_ok-view.view c.in_ok-view.ensures
+
+pub returns-clause-repairs : goal.returns-clause-repairs
+returns-clause-repairs c =
+    least_repairs c.left_out_of_view.ensures c.core_view_size.ensures c.args.core.now c.in_ok-view.view (marked c.in_ok-set.set.items) c.width-width.ensures.core
+    c.in_ok-view.ensures c.in_ok-set.ensures.least

@@ -1,0 +1,74 @@
+-- Bounds that are raised.
+use Rattle.std.proofs.Common.{◌≡◌, ◌≢◌, inl, inr, ℕ, ◌+◌, ◌<◌, ◌≤◌, Bool, true, false, List, length, get_or, set, sym, ◌∙◌, subst, arith}
+use Rattle.std.proofs.lemmas.List.{get_or-set_other}
+use Rattle.span_model.specs.Columns.{Columns}
+use Rattle.span_model.specs.Attack.{Product, HasAttack}
+use Rattle.span_model.specs.AttackLaws.{LeaksAreClosed}
+use Rattle.span_model.specs.Refresh.{left_out}
+use Rattle.tightprove.specs.Classes.{AreClassesOf}
+use Rattle.tightprove.specs.declared.gathered.Gathered.{Gathered}
+use Rattle.tightprove.specs.Private.Gathered.{beyond, rows_in, HasSameRows, HasNoLeak}
+use Rattle.tightprove.specs.Private.Bounds.{class_count, AreBounds, IsCleanBound, IsRestBound}
+use Rattle.tightprove.proofs.Leaving.{below_answer}
+use Rattle.tightprove.proofs.Settling.{at_set}
+
+-- a class with a bound that was tried
+pub clean_bounds : LeaksAreClosed ℕ → (products : List (Product ℕ)) (S : ℕ → Bool) (old new : Gathered) (i m all b : ℕ) (bounds : List ℕ) → HasSameRows old new
+    → AreClassesOf (left_out (beyond S all) products) new.classes.list.items → i < length bounds → IsCleanBound new i (get_or bounds i 0) m all b
+    → AreBounds products S old bounds → AreBounds products S old (set bounds i b)
+clean_bounds law products S old new i m all b bounds same are h is bound k below =
+    at_set bounds i b h (λ x y. x < class_count old → HasNoLeak products (beyond S y) (rows_in old x))
+    (λ inside. elim is [
+      | inl stays ↦ subst (λ (y : ℕ). HasNoLeak products (beyond S y) (rows_in old i)) (sym stays.0) (bound i inside)
+      | inr clean ↦ subst (λ (y : ℕ). HasNoLeak products (beyond S y) (rows_in old i)) (sym clean.0)
+          (below_answer law products old new (beyond S all) i false are same clean.1)
+    ])
+    (λ x other inside. bound x inside) k below
+
+pub clean_stuck : LeaksAreClosed ℕ → (products : List (Product ℕ)) (S : ℕ → Bool) (old new : Gathered) (i m all b : ℕ) (bounds : List ℕ) → HasSameRows old new
+    → AreClassesOf (left_out (beyond S all) products) new.classes.list.items → i < length bounds → IsCleanBound new i (get_or bounds i 0) m all b → m < all
+    → ((k : ℕ) → k < i → get_or bounds k 0 ≤ m → HasAttack (left_out (beyond S all) products))
+    → (k : ℕ) → k < i + 1 → get_or (set bounds i b) k 0 ≤ m → HasAttack (left_out (beyond S all) products)
+clean_stuck law products S old new i m all b bounds same are h is high before k below =
+    at_set bounds i b h (λ x y. x < i + 1 → y ≤ m → HasAttack (left_out (beyond S all) products))
+    (λ inside low. elim is [
+      | inl stays ↦
+          let e = stays.0 in
+          let found = stays.1 (omega arith) in
+          below_answer law products old new (beyond S all) i true are same found
+      | inr clean ↦ let e = clean.0 in absurd (omega arith)
+    ])
+    (λ x other inside low. let apart : x ≢ i = other in before x (omega arith) low) k below
+
+-- a class whose bound was sought
+pub rest_bounds : (products : List (Product ℕ)) (S : ℕ → Bool) (old : Gathered) (rows : List (Columns ℕ)) (i m b : ℕ) (bounds : List ℕ) → rows ≡ rows_in old i
+    → i < length bounds → IsRestBound products S rows (get_or bounds i 0) m b → AreBounds products S old bounds → AreBounds products S old (set bounds i b)
+rest_bounds products S old rows i m b bounds e h is bound k below =
+    at_set bounds i b h (λ x y. x < class_count old → HasNoLeak products (beyond S y) (rows_in old x))
+    (λ inside. elim is [
+      | inl stays ↦ subst (λ (y : ℕ). HasNoLeak products (beyond S y) (rows_in old i)) (sym stays.0) (bound i inside)
+      | inr found ↦ subst (λ (r : List (Columns ℕ)). HasNoLeak products (beyond S b) r) e found.1
+    ])
+    (λ x other inside. bound x inside) k below
+
+pub rest_stuck : (products : List (Product ℕ)) (S : ℕ → Bool) (rows : List (Columns ℕ)) (i m b : ℕ) (bounds : List ℕ) → i < length bounds
+    → IsRestBound products S rows (get_or bounds i 0) m b
+    → ((k : ℕ) → k < i → get_or bounds k 0 ≤ m → HasAttack (left_out (beyond S (m + 1)) products))
+    → (k : ℕ) → k < i + 1 → get_or (set bounds i b) k 0 ≤ m → HasAttack (left_out (beyond S (m + 1)) products)
+rest_stuck products S rows i m b bounds h is before k below =
+    at_set bounds i b h (λ x y. x < i + 1 → y ≤ m → HasAttack (left_out (beyond S (m + 1)) products))
+    (λ inside low. elim is [
+      | inl stays ↦ let high = stays.1 in absurd (omega arith)
+      | inr found ↦
+          let le = found.0 in
+          let e : b + 1 ≡ m + 1 = omega arith in
+          subst (λ (x : ℕ). HasAttack (left_out (beyond S x) products)) e found.2
+    ])
+    (λ x other inside low. let apart : x ≢ i = other in before x (omega arith) low) k below
+
+-- the bounds behind the one that changed are as they were
+pub behind : (bounds old : List ℕ) (i b : ℕ) → ((k : ℕ) → i ≤ k → get_or bounds k 0 ≡ get_or old k 0)
+    → (k : ℕ) → i + 1 ≤ k → get_or (set bounds i b) k 0 ≡ get_or old k 0
+behind bounds old i b before k h =
+    let apart : k ≡ i → ⊥ = λ e. absurd (omega arith) in
+    get_or-set_other bounds i k b 0 apart ∙ before k (omega arith)

@@ -3,3 +3,6 @@ mod Leaves
 mod ExpressionRuns
 mod StatementRuns
 mod FileRuns
+mod Meaning
+mod Rows
+mod Sound

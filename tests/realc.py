@@ -93,10 +93,11 @@ def parts_of(text):
 
 
 def numbers_for(parts, shares):
-    """Input shares and random words, the same in each run."""
+    """Input shares and random words, the same in each run. Short words keep the data within the limit on files."""
     numbers = random.Random(shares)
     inputs = [numbers.randint(0, int(parts["mask"])) for _ in range(int(parts["inputs"]) * shares)]
-    words = [numbers.getrandbits(64) for _ in range(parts["draws"] * shares * (shares - 1) // 2)]
+    lengths = numbers.choices((8, 40, 64), k=parts["draws"] * shares * (shares - 1) // 2)
+    words = [numbers.getrandbits(length) for length in lengths]
     return inputs, words
 
 
@@ -146,15 +147,13 @@ def run_page(program, compiler):
 
 
 def orders_of(program):
-    """The orders that print the examples as C, by name: in their own words, and in each size that they can have."""
+    """The orders that print the examples as C, by name: in each size of words that they can have."""
     for example in sorted((TOP / "examples").glob("*.ua")):
         own = ["compile", str(example)]
-        if takes_words(program, own):
-            yield example.name, own
-        for size in SIZES:
-            asked = [*own, "--word", str(size)]
-            if takes_words(program, asked):
-                yield f"{example.name}, --word {size}", asked
+        asked = [[*own, "--word", str(size)] for size in SIZES]
+        taken = [words for words in asked if takes_words(program, words)]
+        for words in taken or [own]:
+            yield " ".join([example.name, *words[2:]]), words
 
 
 def compilers_there():

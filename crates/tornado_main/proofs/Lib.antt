@@ -11,3 +11,4 @@ pub mod VerdictLemmas
 pub mod GenLemmas
 mod CompileLemmas
 pub mod HeadlineLemmas
+pub mod CompletenessLemmas

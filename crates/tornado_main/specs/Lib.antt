@@ -16,3 +16,4 @@ pub mod Refusals
 pub mod Ending
 pub mod Process
 pub mod Headline
+pub mod Completeness

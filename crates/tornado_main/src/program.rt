@@ -1,4 +1,5 @@
 ghost use Rattle.std.specs.Prelude.{map, string_bytes};
+ghost use Rattle.tornado_main.specs.Completeness.{IsComplete};
 ghost use Rattle.tornado_main.specs.Headline.{Headline};
 ghost use Rattle.tornado_main.specs.Run.{IsRun};
 
@@ -32,6 +33,8 @@ pub fn tornado<F: Files, O: Sink, E: Sink>(
         (map string_bytes words.now.items) files.old files.new out.old out.new err.old err.new result }
     ensures headline { Headline (F.contents files.old) (map string_bytes words.now.items) (O.written out.old)
         (O.written out.new) result }
+    ensures complete { IsComplete F.faults F.too_long F.contents O.faults O.written (map string_bytes words.now.items)
+        files.old files.new out.old out.new result }
 {
     one_source();
     written_is_read();

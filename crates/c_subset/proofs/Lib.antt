@@ -6,3 +6,4 @@ mod FileRuns
 mod Meaning
 mod Rows
 mod Sound
+mod Once

@@ -1,6 +1,6 @@
 //! Laws about the files of the C subset, each the contract of a function that does nothing.
 
-ghost use Rattle.std.specs.Prelude.{ℕ, List};
+ghost use Rattle.std.specs.Prelude.{◌≡◌, ℕ, List};
 ghost use Rattle.ll_reader.specs.declared.grammar.Step.{Step};
 ghost use Rattle.tor_edge.specs.declared.place.Place.{Place};
 ghost use Rattle.c_grammar.specs.Grammar.{AreDerived};
@@ -19,4 +19,10 @@ pub fn files_are_derived()
 pub fn derived_are_files()
     ensures { (bits : ℕ) (tokens : List Token) (at : Place) (steps : List Step) → AreDerived tokens (ending.End at) steps
         → (file : CFile) × IsFile bits tokens file }
+{}
+
+/// Tokens are at most one file.
+pub fn one_file()
+    ensures { (bits : ℕ) (tokens : List Token) (first second : CFile) → IsFile bits tokens first → IsFile bits tokens second
+        → first ≡ second }
 {}

@@ -3,4 +3,4 @@
 
 mod laws;
 
-pub use laws::{derived_are_files, files_are_derived};
+pub use laws::{derived_are_files, files_are_derived, one_file};

@@ -1,5 +1,6 @@
 -- The meaning of expressions and statements, over a memory of rows of words and a stream of random words.
-use Rattle.std.specs.Prelude.{ℕ, zero, suc, ◌+◌, ◌-◌, ◌*◌, ◌/◌, ◌%◌, ◌^◌, nat_lt, if◌then◌else◌, List, [], ◌∷◌, ◌++◌, take, Option, None, Some, Result, Ok, Err, length, slice_get, slice_index_or, slice_set, bit_and, bit_or, bit_xor}
+use Rattle.std.specs.Prelude.{ℕ, zero, suc, ◌+◌, ◌-◌, ◌*◌, ◌/◌, ◌%◌, ◌^◌, nat_lt, if◌then◌else◌, List, [], ◌∷◌, ◌++◌, take}
+use Rattle.std.specs.Prelude.{Option, None, Some, Result, Ok, Err, length, slice_get, slice_index_or, slice_set, bit_and, bit_or, bit_xor}
 use Rattle.c_tree.specs.declared.CExpr.{CExpr, fold-CExpr}
 use Rattle.c_tree.specs.declared.CExpr.TheOpen.{CExpr-F}
 use Rattle.c_tree.specs.declared.CStmt.{CStmt, fold-CStmt}

@@ -1,5 +1,6 @@
 -- A run of a file: its calls in order, over the rows of `out`, `in` and `v`.
-use Rattle.std.specs.Prelude.{◌≡◌, ℕ, zero, suc, ◌+◌, nat_lt, if◌then◌else◌, List, [], ◌∷◌, ◌++◌, map, take, drop, replicate, bytes_eq, Option, None, Some, Result, Ok, Err}
+use Rattle.std.specs.Prelude.{◌≡◌, ℕ, zero, suc, ◌+◌, nat_lt, if◌then◌else◌, List, [], ◌∷◌, ◌++◌, map}
+use Rattle.std.specs.Prelude.{take, drop, replicate, bytes_eq, Option, None, Some, Result, Ok, Err}
 use Rattle.c_tree.specs.declared.CFile.{CFile}
 use Rattle.c_tree.specs.declared.CFun.{CFun}
 use Rattle.c_tree.specs.declared.CParam.{CParam}
@@ -37,8 +38,8 @@ bound_first name None scope = None
 bound_first name (Some meant) None = None
 bound_first name (Some meant) (Some scope) = Some (record { name = name; meaning = meant } ∷ scope)
 
--- the parameters of a gadget with what the arguments of a call stand for, where no argument is a row past the last of its
--- array
+-- the parameters of a gadget with what the arguments of a call stand for, where no argument is a row past the last of
+-- its array
 abbrev pub bound : CFile → List CParam → List CArg → Option (List Binding)
 bound file [] arguments = Some []
 bound file (p ∷ parameters) [] = Some []
@@ -105,6 +106,7 @@ abbrev pub words_of_rows : List (List ℕ) → List ℕ
 words_of_rows [] = []
 words_of_rows (first ∷ rows) = first ++ words_of_rows rows
 
+-- the answer of a run, from how it ends
 abbrev pub answer : ℕ → Ending → Result (List ℕ) RunFault
 answer outputs (Err met) = Err met
 answer outputs (Ok memory) = Ok (words_of_rows (take outputs memory))

@@ -1,6 +1,6 @@
 //! A run of a file.
 ghost use Rattle.std.specs.Prelude.{◌≡◌, ◌++◌, ◌*◌, ◌<◌, ◌≤◌, take, IfOk, IfErr, OnOk, Ok, length, vec_items};
-ghost use Rattle.c_machine.specs.Run.{machine_run, calls_done, words_of_rows, rows_of, zero_rows, start_memory, stop_at, IsRunFault};
+ghost use Rattle.c_machine.specs.Run.{machine_run, calls_done, words_of_rows, rows_of, zero_rows, start_memory, IsRunFault};
 ghost use Rattle.c_machine.specs.State.Answers.{state_of, IsEnding, fault_of};
 
 use crate::call::do_call;
@@ -103,11 +103,11 @@ fn words_of(alloc: Global, rows: &[List<u64>], count: u32) -> Result<List<u64>, 
     Ok(List::from_vec(words))
 }
 
-/// Runs a file on so many shares: the shares of input 0, then those of input 1 and so on, and the random words. The answer
-/// has the shares of the outputs in the same way.
+/// Runs a file on so many shares: the shares of input 0, then those of input 1 and so on, and the random words. The
+/// answer has the shares of the outputs in the same way.
 ///
-/// A number that is no row of its array, or no place in a row, a shift by 64 or more, and a draw that finds no word stop
-/// the run; the first that it meets is answered.
+/// A number that is no row of its array, or no place in a row, a shift by 64 or more, and a draw that finds no word
+/// stop the run; the first that it meets is answered.
 pub fn run_c(
     alloc: Global,
     file: &CFile,

@@ -120,7 +120,8 @@ pub fn execute_all<'a>(
     size: Size,
 ) -> Result<(), Stop>
     ensures { IsOutcome
-        (model.in_turn (map (model.executed size.shares size.bits) statements.now) (state_of machine.old)) result (state_of machine.new) }
+        (model.in_turn (map (model.executed size.shares size.bits) statements.now) (state_of machine.old)) result
+        (state_of machine.new) }
 {
     for statement in statements {
         execute(machine, statement, size)?;

@@ -1,0 +1,4 @@
+pub mod Scope
+pub mod Names
+pub mod Laws
+pub mod State

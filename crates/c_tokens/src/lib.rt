@@ -10,4 +10,4 @@ mod word;
 
 pub use opening::{Opening, opening_of};
 pub use token::{Ending, Keyword, Sign, Token, TokenKind, Tokens};
-pub use tokens::{every_text_spells, one_spelling, tokens_of};
+pub use tokens::{every_text_spells, one_spelling, place_after, tokens_of};

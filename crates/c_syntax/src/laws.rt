@@ -1,0 +1,19 @@
+//! Laws about the syntax of C files, each the contract of a function that does nothing.
+
+ghost use Rattle.std.specs.Prelude.{◌⊎◌, ℕ, List};
+ghost use Rattle.tor_edge.specs.declared.place.Place.{Place};
+ghost use Rattle.c_syntax.specs.Syntax.{SpellsFile, IsSyntaxFault};
+ghost use Rattle.c_tree.specs.declared.CFile.{CFile};
+
+use c_grammar::derived_or_fault;
+use c_subset::derived_are_files;
+use c_tokens::every_text_spells;
+
+/// All bytes spell a file, names in scope apart, or their syntax is at fault.
+pub fn file_or_fault()
+    ensures { (bytes : List ℕ) → ((file : CFile) × SpellsFile bytes file) ⊎ ((place : Place) × IsSyntaxFault bytes place) }
+{
+    every_text_spells();
+    derived_or_fault();
+    derived_are_files();
+}

@@ -1,3 +1,4 @@
 mod Lines
 mod Broken
 mod Spelling
+mod Single

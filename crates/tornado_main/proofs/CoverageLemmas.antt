@@ -1,5 +1,5 @@
 -- What outcomes the steps of an order leave.
-use Rattle.std.proofs.Common.{arith, ◌≡◌, ◌⊎◌, inl, inr, List, ℕ, Option, Some, None, Ok, Err, refl, sym, ◌∙◌, ap, subst}
+use Rattle.std.proofs.Common.{arith, ◌≡◌, ◌⊎◌, inl, inr, List, ℕ, Option, Some, None, Ok, Err, refl, sym, ◌∙◌, ap, ap₂, subst}
 use Rattle.span_model.specs.Attack.{HasAttack}
 use Rattle.usuba_trees.specs.declared.File.{File}
 use Rattle.usuba_syntax.specs.Sources.{SpellsFile, HasFault}
@@ -21,6 +21,9 @@ use Rattle.linear_view.specs.View.{LinearView}
 use Rattle.attack_model.specs.declared.attack.Attack.{Attack}
 use Rattle.attack_text.specs.declared.read.CertFault.TheVariants as cert
 use Rattle.attack_probes.specs.Unfolding.{unfolding_of}
+use Rattle.data_text.specs.declared.fault.ValueFault.TheVariants as value_fault
+use Rattle.share_trial.specs.Trial.{trial_of}
+use Rattle.share_trial.specs.TrialText.{trial_text}
 use Rattle.tornado_main.specs.Coverage.{HasStatus, FitsOutcome}
 use Rattle.tornado_main.specs.Files.{Contents, IsFetched}
 use Rattle.tornado_main.specs.Outcome.{Outcome, answers}
@@ -36,6 +39,8 @@ use Rattle.tornado_main.specs.commands.Compile.{IsCompiled, masked, other_width}
 use Rattle.tornado_main.specs.commands.Check.{IsVerdict, IsAttackOfLeak, secure, found}
 use Rattle.tornado_main.specs.commands.Verify.{IsConfirmation, SpellsAttack, IsFaultyAttack, holds, fails, out_of_range, other_core}
 use Rattle.tornado_main.specs.commands.Verify as verify
+use Rattle.tornado_main.specs.commands.Eval.{Held, IsHeld, SaysInputs, IsFaultyInputs}
+use Rattle.tornado_main.specs.commands.Eval as eval
 use Rattle.tornado_main.specs.declared.message.Fault.{Fault}
 use Rattle.tornado_main.specs.declared.status.Status.{Status}
 use Rattle.tornado_main.specs.declared.status.Status.TheVariants as exit
@@ -75,12 +80,14 @@ order_fits contents (order.Rows file basis) = after_fits contents file exit.Sour
 order_fits contents (order.Check file basis) = after_fits contents file exit.Source _ _ _ (inl refl) verdict_fits
 order_fits contents (order.Verify file attack basis) =
     after_fits contents file exit.Source _ _ _ (inl refl) (λ core. after_fits contents attack exit.Values _ _ _ (inr refl) (confirmation_fits core))
-order_fits contents (order.Eval file values basis) = λ end ends. absurd ends
+order_fits contents (order.Eval file values basis) =
+    after_fits contents file exit.Source _ _ _ (inl refl)
+    (λ held. after_fits contents values exit.Values _ _ _ (inr refl) (λ inputs end told. done_fits _ end told.2))
 order_fits contents (order.Repair file basis) =
     after_fits contents file exit.Source _ _ _ (inl refl) (λ core end repaired. done_fits _ end repaired.3)
 order_fits contents (order.Compile file word basis) = after_fits contents file exit.Source _ _ _ (inl refl) (compiled_fits file word)
 order_fits contents (order.Run cfile values) = λ end ends. absurd ends
-order_fits contents (order.Trial file shares seed basis) = λ end ends. absurd ends
+order_fits contents (order.Trial file shares seed basis) = after_fits contents file exit.Source _ _ _ (inl refl) (λ core end. done_fits _ end)
 order_fits contents (order.Gen seed size) = λ end told. done_fits _ end told.2
 
 -- where the contents are told, two fetches of a name answer the same bytes
@@ -160,6 +167,14 @@ attack_apart view bytes a _ x (verify.syntax _ line h) = let here : Ok a ≡ Err
 attack_apart view bytes a _ x (out_of_range _ line h) = let here : Ok a ≡ Err (cert.OutOfRange line) = sym x ∙ h in absurd (cc)
 attack_apart view bytes a _ x (other_core _ line h) = let here : Ok a ≡ Err (cert.OtherCore line) = sym x ∙ h in absurd (cc)
 
+-- a text says one list of inputs, and none where it has a fault
+inputs_one : (core : Circuit) (bytes : List ℕ) (a b : List ℕ) → SaysInputs core a bytes → SaysInputs core b bytes → a ≡ b
+inputs_one core bytes a b x y = let here : Ok a ≡ Ok b = sym x ∙ y in cc
+
+inputs_apart : (core : Circuit) (bytes : List ℕ) (a : List ℕ) (fault : Fault) → SaysInputs core a bytes → ¬ IsFaultyInputs core fault bytes
+inputs_apart core bytes a _ x (eval.syntax _ line h) = let here : Ok a ≡ Err (value_fault.Syntax line) = sym x ∙ h in absurd (cc)
+inputs_apart core bytes a _ x (eval.out_of_range _ line h) = let here : Ok a ≡ Err (value_fault.OutOfRange line) = sym x ∙ h in absurd (cc)
+
 -- a file without a fault has none
 pub no_judged_fault : (asked_width : Option ℕ) (asked_entry : Option (List ℕ)) (file : File) (fault : JudgedFault)
     → fault_of asked_width asked_entry file ≡ None → ¬ (fault_of asked_width asked_entry file ≡ Some fault)
@@ -235,6 +250,13 @@ module _ (one_file : (bytes : List ℕ) (first second : File) → SpellsFile byt
   held_apart (basis.Source width entry) = source_apart one_file no_fault width entry
   held_apart basis.CoreText = text_apart written_is_read
 
+  -- a file has one core with its bytes
+  core_held_one : (b : Basis) (bytes : List ℕ) (x y : Held) → IsHeld b x bytes → IsHeld b y bytes → x ≡ y
+  core_held_one b bytes x y p q =
+      let cores : x.core ≡ y.core = held_one b bytes x.core y.core p.core q.core in
+      let texts : x.bytes ≡ y.bytes = p.same ∙ sym q.same in
+      ap₂ (λ (c : Circuit) (k : List ℕ). record { core = c; bytes = k }) cores texts
+
   -- all outcomes of an order but refused fetches have one status
   pub order_one : (file : List ℕ → Option (List ℕ)) (o : Order) → HaveOneStatus (OrderEnds (Some file) o)
   order_one file (order.Core name b) = after_one file name exit.Source _ _ _ (held_one b) (held_apart b) (λ core. done_one (core_text core))
@@ -243,11 +265,15 @@ module _ (one_file : (bytes : List ℕ) (first second : File) → SpellsFile byt
   order_one file (order.Verify name attack b) =
       after_one file name exit.Source _ _ _ (held_one b) (held_apart b)
       (λ core. after_one file attack exit.Values _ _ _ (attack_one (core_view core)) (attack_apart (core_view core)) (confirmation_one core))
-  order_one file (order.Eval name values b) = λ end other s t x y hs ht. absurd x
+  order_one file (order.Eval name values b) =
+      after_one file name exit.Source _ _ _ (core_held_one b) (λ bytes held fault is. held_apart b bytes held.core fault is.core)
+      (λ held. after_one file values exit.Values _ _ _ (inputs_one held.core) (inputs_apart held.core)
+      (λ inputs end other s t x y hs ht. answers_one _ _ end other s t x.2 y.2 hs ht))
   order_one file (order.Repair name b) =
       after_one file name exit.Source _ _ _ (held_one b) (held_apart b)
       (λ core end other s t x y hs ht. answers_one _ _ end other s t x.3 y.3 hs ht)
   order_one file (order.Compile name word b) = after_one file name exit.Source _ _ _ (held_one b) (held_apart b) (compiled_one name word)
   order_one file (order.Run cfile values) = λ end other s t x y hs ht. absurd x
-  order_one file (order.Trial name shares seed b) = λ end other s t x y hs ht. absurd x
+  order_one file (order.Trial name shares seed b) =
+      after_one file name exit.Source _ _ _ (held_one b) (held_apart b) (λ core. done_one (trial_text (trial_of shares core seed)))
   order_one file (order.Gen seed size) = λ end other s t x y hs ht. answers_one _ _ end other s t x.2 y.2 hs ht

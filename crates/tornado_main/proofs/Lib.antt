@@ -8,6 +8,7 @@ pub mod AnsweringLemmas
 pub mod SourceLemmas
 pub mod RunLemmas
 pub mod VerdictLemmas
+pub mod EvalLemmas
 pub mod GenLemmas
 mod CompileLemmas
 pub mod HeadlineLemmas

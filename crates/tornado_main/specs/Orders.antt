@@ -6,6 +6,8 @@ use Rattle.tornado_main.specs.commands.Rows.{RowsEnds}
 use Rattle.tornado_main.specs.commands.Check.{CheckEnds}
 use Rattle.tornado_main.specs.commands.Verify.{VerifyEnds}
 use Rattle.tornado_main.specs.commands.Repair.{RepairEnds}
+use Rattle.tornado_main.specs.commands.Eval.{EvalEnds}
+use Rattle.tornado_main.specs.commands.Trial.{TrialEnds}
 use Rattle.tornado_main.specs.commands.Gen.{GenEnds}
 use Rattle.tornado_main.specs.commands.Compile.{CompileEnds}
 use Rattle.tornado_words.specs.declared.order.Order.{Order}
@@ -18,6 +20,8 @@ OrderEnds contents (order.Rows file basis) = RowsEnds contents file basis
 OrderEnds contents (order.Check file basis) = CheckEnds contents file basis
 OrderEnds contents (order.Verify file attack basis) = VerifyEnds contents file attack basis
 OrderEnds contents (order.Repair file basis) = RepairEnds contents file basis
+OrderEnds contents (order.Eval file values basis) = EvalEnds contents file values basis
+OrderEnds contents (order.Trial file shares seed basis) = TrialEnds contents file shares seed basis
 OrderEnds contents (order.Gen seed size) = GenEnds seed size
 OrderEnds contents (order.Compile file word basis) = CompileEnds contents file word basis
 OrderEnds contents _ = λ end. ⊥

@@ -6,9 +6,7 @@ use Rattle.tornado_words.specs.declared.order.Order.TheVariants as order
 
 -- the command of an order is built
 abbrev pub is_built : Order → Bool
-is_built (order.Eval file values basis) = false
 is_built (order.Run cfile values) = false
-is_built (order.Trial file shares seed basis) = false
 is_built _ = true
 
 -- an order whose command is built

@@ -3,6 +3,8 @@ pub mod Core
 pub mod Rows
 pub mod Check
 pub mod Verify
+pub mod Eval
+pub mod Trial
 pub mod Repair
 pub mod Gen
 pub mod Compile

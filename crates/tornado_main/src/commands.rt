@@ -8,10 +8,12 @@ ghost use Rattle.tornado_main.specs.Words.{is_built, files_of};
 
 mod check;
 mod compile;
+mod evaluate;
 mod generate;
 mod print_core;
 mod print_repaired;
 mod print_rows;
+mod print_trial;
 mod verify;
 
 use crate::refusal::Refusal;
@@ -56,6 +58,17 @@ pub fn carry_out<'a, F: Files, O: Sink>(
         Order::Repair { file, basis } => {
             print_repaired::print_repaired(alloc, file.as_str(), basis, files, out)
         }
+        Order::Eval {
+            file,
+            values,
+            basis,
+        } => evaluate::evaluate(alloc, file.as_str(), values.as_str(), basis, files, out),
+        Order::Trial {
+            file,
+            shares,
+            seed,
+            basis,
+        } => print_trial::print_trial(alloc, file.as_str(), *shares, *seed, basis, files, out),
         Order::Gen { seed, size } => generate::generate(alloc, *seed, *size, out),
         Order::Compile { file, word, basis } => compile::compile(
             alloc,

@@ -26,8 +26,5 @@ pub fn order_of(alloc: Global, words: &Vec<String>) -> Result<Order, WordFault>
 fn is_built(order: &Order) -> bool
     ensures { result ≡ is_built order.now }
 {
-    !matches!(
-        order,
-        Order::Eval { .. } | Order::Run { .. } | Order::Trial { .. }
-    )
+    !matches!(order, Order::Run { .. })
 }

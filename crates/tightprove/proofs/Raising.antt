@@ -8,7 +8,7 @@ use Rattle.span_model.specs.Refresh.{left_out}
 use Rattle.tightprove.specs.Classes.{AreClassesOf}
 use Rattle.tightprove.specs.declared.gathered.Gathered.{Gathered}
 use Rattle.tightprove.specs.Private.Gathered.{beyond, rows_in, HasSameRows, HasNoLeak}
-use Rattle.tightprove.specs.Private.Bounds.{class_count, AreBounds, IsCleanBound, IsRestBound}
+use Rattle.tightprove.specs.Private.Bounds.{class_count, AreBounds, IsCleanTo, IsCleanBound, IsRestBound}
 use Rattle.tightprove.proofs.Leaving.{below_answer}
 use Rattle.tightprove.proofs.Settling.{at_set}
 
@@ -42,12 +42,16 @@ clean_stuck law products S old new i m all b bounds same are h is high before k 
 
 -- a class whose bound was sought
 pub rest_bounds : (products : List (Product ℕ)) (S : ℕ → Bool) (old : Gathered) (rows : List (Columns ℕ)) (i m b : ℕ) (bounds : List ℕ) → rows ≡ rows_in old i
-    → i < length bounds → IsRestBound products S rows (get_or bounds i 0) m b → AreBounds products S old bounds → AreBounds products S old (set bounds i b)
-rest_bounds products S old rows i m b bounds e h is bound k below =
+    → i < length bounds → IsRestBound products S rows (get_or bounds i 0) m b → IsCleanTo products S old m
+    → AreBounds products S old bounds → AreBounds products S old (set bounds i b)
+rest_bounds products S old rows i m b bounds e h is clean bound k below =
     at_set bounds i b h (λ x y. x < class_count old → HasNoLeak products (beyond S y) (rows_in old x))
     (λ inside. elim is [
       | inl stays ↦ subst (λ (y : ℕ). HasNoLeak products (beyond S y) (rows_in old i)) (sym stays.0) (bound i inside)
-      | inr found ↦ subst (λ (r : List (Columns ℕ)). HasNoLeak products (beyond S b) r) e found.1
+      | inr found ↦ elim found [
+        | inl above ↦ subst (λ (r : List (Columns ℕ)). HasNoLeak products (beyond S b) r) e above.1
+        | inr stuck ↦ subst (λ (y : ℕ). HasNoLeak products (beyond S y) (rows_in old i)) (sym stuck.0) (clean i inside)
+      ]
     ])
     (λ x other inside. bound x inside) k below
 
@@ -59,10 +63,10 @@ rest_stuck products S rows i m b bounds h is before k below =
     at_set bounds i b h (λ x y. x < i + 1 → y ≤ m → HasAttack (left_out (beyond S (m + 1)) products))
     (λ inside low. elim is [
       | inl stays ↦ let high = stays.1 in absurd (omega arith)
-      | inr found ↦
-          let le = found.0 in
-          let e : b + 1 ≡ m + 1 = omega arith in
-          subst (λ (x : ℕ). HasAttack (left_out (beyond S x) products)) e found.2
+      | inr found ↦ elim found [
+        | inl above ↦ let high = above.0 in absurd (omega arith)
+        | inr stuck ↦ stuck.1
+      ]
     ])
     (λ x other inside low. let apart : x ≢ i = other in before x (omega arith) low) k below
 

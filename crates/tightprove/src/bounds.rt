@@ -28,7 +28,7 @@ fn leaks_below(
         (HasNoLeak products (beyond (marks_of set.now) bound) (rows_in gathered.old i))) }
 {
     leaks_are_closed::<u32>();
-    gathered.leave_out(alloc, set, bound)?;
+    gathered.leave_out(set, bound)?;
     let mut known = Known::new(alloc, gathered.classes.columns)?;
     let leaks = gathered.leaks_in(alloc, i, &mut known)?;
     Ok(leaks)
@@ -124,7 +124,7 @@ pub(crate) fn raise_clean(
         → m < length set.now → AreStuck products (marks_of set.now) gathered.old m (length set.now) bounds.new) }
 {
     leaks_are_closed::<u32>();
-    gathered.leave_out(alloc, set, set.len())?;
+    gathered.leave_out(set, set.len())?;
     let mut known = Known::new(alloc, gathered.classes.columns)?;
     for i in 0..bounds.len() {
         bounds[i] = clean_bound(gathered, alloc, i, bounds[i], m, set.len(), &mut known)?;
@@ -155,7 +155,13 @@ fn rest_bound(
     if bound > m {
         return Ok(bound);
     }
-    let reached = reach(gathered, alloc, set, i, m, set.len())?;
+    if leaks_below(gathered, alloc, set, i, m + 1)? {
+        return Ok(m);
+    }
+    if m + 1 == set.len() {
+        return Ok(m + 1);
+    }
+    let reached = reach(gathered, alloc, set, i, m + 1, set.len())?;
     Ok(reached)
 }
 

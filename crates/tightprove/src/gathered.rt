@@ -85,14 +85,21 @@ fn place_bare(
     place(alloc, columns, list, by_lead, &[])
 }
 
+// Takes all numbers out of a list, which keeps its memory.
+fn empty_out(numbers: &mut List<usize>)
+    ensures { numbers.new ≡ [] }
+{
+    'pops: while numbers.pop().is_some() {}
+}
+
 // Takes away all partners.
-fn clear_partners(alloc: Global, list: &mut Vec<Class>)
+fn clear_partners(list: &mut Vec<Class>)
     ensures length { length list.new.items ≡ length list.old.items }
     ensures rows { (i : ℕ) → (class_at list.new.items i).rows ≡ (class_at list.old.items i).rows }
     ensures none { (i : ℕ) → (class_at list.new.items i).partners ≡ [] }
 {
     for i in 0..list.len() {
-        list[i].partners = List::new(alloc);
+        empty_out(&mut list[i].partners);
     }
 }
 
@@ -161,12 +168,7 @@ impl Gathered {
     }
 
     /// Leaves out the products whose marks are set and those from number `bound` on, and no others.
-    pub(crate) fn leave_out(
-        &mut self,
-        alloc: Global,
-        set: &[bool],
-        bound: usize,
-    ) -> Result<(), AllocError>
+    pub(crate) fn leave_out(&mut self, set: &[bool], bound: usize) -> Result<(), AllocError>
         requires ready { IsReady self.old }
         requires marks { length set.now ≡ length self.old.places.items }
         ensures ready { OnOk result (IsReady self.new) }
@@ -174,7 +176,7 @@ impl Gathered {
         ensures products { OnOk result ((products : List (Product ℕ)) → IsGatheredOf products self.old
             → AreClassesOf (left_out (beyond (marks_of set.now) bound) products) self.new.classes.list.items) }
     {
-        clear_partners(alloc, &mut self.classes.list);
+        clear_partners(&mut self.classes.list);
         for k in 0..set.len() {
             let place = self.place_of(k, is_left_out(set, bound, k));
             pair(&mut self.classes.list, place)?;

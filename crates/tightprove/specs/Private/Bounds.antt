@@ -31,11 +31,12 @@ IsCleanBound gathered i bound m all b =
     ((b ≡ bound) × (bound ≤ m → (v : Columns ℕ) × IsLeakOf gathered.classes.list.items v))
     ⊎ ((b ≡ all) × IsClean gathered.classes.list.items (rows_in gathered i))
 
--- the bound as it was, above m; or one from m on, up to which the class has no leak, and up to the next there is an attack
+-- the bound as it was, above m; or one above m, up to which the class has no leak; or m, and up to the next there is an attack
 abbrev pub IsRestBound : List (Product ℕ) → (ℕ → Bool) → List (Columns ℕ) → (bound m b : ℕ) → Type 0
 IsRestBound products set rows bound m b =
     ((b ≡ bound) × (m < b))
-    ⊎ ((m ≤ b) × HasNoLeak products (beyond set b) rows × HasAttack (left_out (beyond set (b + 1)) products))
+    ⊎ ((m < b) × HasNoLeak products (beyond set b) rows)
+    ⊎ ((b ≡ m) × HasAttack (left_out (beyond set (m + 1)) products))
 
 -- of the first m products it is settled which are in the set: without these no class has a leak among them, and each of
 -- them brings an attack back

@@ -26,7 +26,7 @@ loop-i-preserved c =
       behind = behind c.loop-i.bounds c.args.bounds.now c.loop-i.i c.in_ok-bounds.field-0 before.behind;
       bounds = λ products is clean stuck old.
           rest_bounds products set c.args.gathered.now (rows_in c.loop-i.gathered c.loop-i.i) c.loop-i.i c.args.m c.in_ok-bounds.field-0 c.loop-i.bounds
-          (before.rows.rows c.loop-i.i) within (found products is clean stuck) (before.bounds products is clean stuck old);
+          (before.rows.rows c.loop-i.i) within (found products is clean stuck) clean (before.bounds products is clean stuck old);
       stuck = λ products is clean stuck.
           rest_stuck products set (rows_in c.loop-i.gathered c.loop-i.i) c.loop-i.i c.args.m c.in_ok-bounds.field-0 c.loop-i.bounds within
           (found products is clean stuck) (before.stuck products is clean stuck);

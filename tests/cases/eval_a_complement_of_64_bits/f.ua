@@ -1,0 +1,1 @@
+node f (x:u64) returns (z:u64) let z = ~x tel

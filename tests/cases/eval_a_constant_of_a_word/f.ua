@@ -1,0 +1,1 @@
+node f (x:u8) returns (z:u8x2) let z = (x ^ 1, x & 3) tel

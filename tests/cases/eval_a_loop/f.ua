@@ -1,0 +1,1 @@
+node f (x:u8) returns (z:u8x3) let forall i in [0,2] { z[i] = x <<< i } tel

@@ -1,0 +1,1 @@
+node g (a:b1, b:b1) returns (c:b1) let c = a ^ b tel perm P (x:b3) returns (y:b3) {2, 3, 1} node f (x:b2) returns (z:b3) let z = P(g(x), x) tel

@@ -1,0 +1,1 @@
+table T (x:v2) returns (y:v2) { 0, 3, 1, 2 } node f (x:u8x2) returns (z:u8x2) let z = T(x) tel

@@ -1,0 +1,1 @@
+node f (x:v1) returns (z:v1) let z = ~x tel

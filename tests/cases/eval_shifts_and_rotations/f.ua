@@ -1,0 +1,1 @@
+node f (x:u8) returns (z:u8x4) let z = (x << 1, x >> 1, x <<< 1, x >>> 1) tel

@@ -1,0 +1,1 @@
+node f (x:b1) returns (z:b1) let z = x ^ 1 tel

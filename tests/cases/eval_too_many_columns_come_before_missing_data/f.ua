@@ -1,0 +1,1 @@
+node f (x:b32769) returns (z:b1) let z = x[0] tel

@@ -1,0 +1,1 @@
+node f (x:b1, y:b1) returns (z:b1) let z = (refresh(x, 0) ^ refresh(x, 1)) & y tel

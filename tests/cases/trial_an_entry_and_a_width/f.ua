@@ -1,0 +1,1 @@
+node g (x:v1, y:v1) returns (z:v1) let z = x & y tel node f (x:v1) returns (z:v1) let z = x tel

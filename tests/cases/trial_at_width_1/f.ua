@@ -1,0 +1,1 @@
+node f (x:b1, y:b1) returns (a:b1, b:b1) let a = x & y; b = x & (x ^ y) tel

@@ -1,0 +1,1 @@
+node f (x:u13, y:u13) returns (z:u13x2) let z = (x & y, ~x <<< 3) tel

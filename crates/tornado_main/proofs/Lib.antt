@@ -13,3 +13,5 @@ pub mod GenLemmas
 mod CompileLemmas
 pub mod HeadlineLemmas
 pub mod CompletenessLemmas
+pub mod AttackTextLemmas
+pub mod InputsLemmas

@@ -1,12 +1,16 @@
 -- What the outcomes of an order have in common.
 use Rattle.std.specs.Prelude.{◌≡◌, ◌⊎◌, ℕ, List, Option, Some}
 use Rattle.usuba0.specs.Circuit.{Circuit}
+use Rattle.linear_view.specs.View.{LinearView}
+use Rattle.attack_model.specs.declared.attack.Attack.{Attack}
 use Rattle.tornado_words.specs.Ranges.{HasFitWidth}
 use Rattle.tornado_words.specs.declared.order.Basis.{Basis}
 use Rattle.tornado_main.specs.Bases.{Holds, IsFaulty}
 use Rattle.tornado_main.specs.Files.{Contents}
 use Rattle.tornado_main.specs.Orders.{OrderEnds}
 use Rattle.tornado_main.specs.Outcome.{Outcome, answers, refused, unread}
+use Rattle.tornado_main.specs.commands.Eval.{SaysInputs, IsFaultyInputs}
+use Rattle.tornado_main.specs.commands.Verify.{SpellsAttack, IsFaultyAttack}
 use Rattle.tornado_main.specs.declared.message.Fault.{Fault}
 use Rattle.tornado_main.specs.declared.status.Status.{Status}
 use Rattle.tornado_main.specs.declared.status.Status.TheVariants.{Done, Found, Source, Values}
@@ -36,3 +40,13 @@ pub record OutcomesAgree : Type 0 where
 abbrev pub CoreOrFault : Type 0
 CoreOrFault = (basis : Basis) → HasFitWidth basis → (bytes : List ℕ)
     → ((core : Circuit) × Holds basis core bytes) ⊎ ((fault : Fault) × IsFaulty basis fault bytes)
+
+-- all bytes spell an attack on a view, or have a fault as one
+abbrev pub AttackOrFault : Type 0
+AttackOrFault = (view : LinearView) (bytes : List ℕ)
+    → ((attack : Attack) × SpellsAttack view attack bytes) ⊎ ((fault : Fault) × IsFaultyAttack view fault bytes)
+
+-- all bytes say the inputs of a core, or have a fault as these
+abbrev pub InputsOrFault : Type 0
+InputsOrFault = (core : Circuit) (bytes : List ℕ)
+    → ((inputs : List ℕ) × SaysInputs core inputs bytes) ⊎ ((fault : Fault) × IsFaultyInputs core fault bytes)

@@ -1,6 +1,7 @@
-ghost use Rattle.tornado_main.specs.Coverage.{CoreOrFault, OutcomesAgree};
+ghost use Rattle.tornado_main.specs.Coverage.{AttackOrFault, CoreOrFault, InputsOrFault, OutcomesAgree};
 
 use core_text::{core_or_fault, read_is_written, written_is_read};
+use data_text::values_or_fault;
 use source_shapes::judged_takes_and_gives;
 use source_terms::meanings_agree;
 use usuba_model::judged_or_faulty;
@@ -24,4 +25,16 @@ pub fn file_has_core_or_fault()
     meanings_agree();
     core_or_fault();
     read_is_written();
+}
+
+/// All bytes spell an attack on a view, or have a fault as one.
+pub fn file_has_attack_or_fault()
+    ensures { AttackOrFault }
+{}
+
+/// All bytes say the inputs of a core, or have a fault as these.
+pub fn file_has_inputs_or_fault()
+    ensures { InputsOrFault }
+{
+    values_or_fault();
 }

@@ -15,7 +15,9 @@ mod sources;
 mod status;
 mod words;
 
-pub use laws::{file_has_core_or_fault, outcomes_agree};
+pub use laws::{
+    file_has_attack_or_fault, file_has_core_or_fault, file_has_inputs_or_fault, outcomes_agree,
+};
 pub use process::run;
 pub use program::tornado;
 pub use status::Status;

@@ -1,5 +1,5 @@
 -- The laws of refreshed cores.
-use Rattle.std.specs.Prelude.{◌≡◌, ℕ, ◌+◌, ◌≤◌, Bool, List, length}
+use Rattle.std.specs.Prelude.{◌≡◌, ℕ, ◌+◌, ◌<◌, ◌≤◌, Bool, List, length}
 use Rattle.usuba0.specs.Circuit.{Circuit, IsCore, products_of, refreshes_of}
 use Rattle.usuba0.specs.PlainRun.{plain_run}
 use Rattle.core_refresh.specs.RefreshedCore.{refreshed_core}
@@ -19,3 +19,10 @@ pub record RefreshedCoreSize : Type 0 where
       → refreshes_of (refreshed_core core set).equations ≤ refreshes_of core.equations + products_of core.equations
   pub equations : (core : Circuit) (set : ℕ → Bool)
       → length (refreshed_core core set).equations ≤ length core.equations + products_of core.equations
+
+-- the set is read off a core and its refreshed core: two sets give the same refreshed core only where they hold the same
+-- products of the core
+abbrev pub SetIsReadOff : Type 0
+SetIsReadOff =
+    (core : Circuit) (set other : ℕ → Bool) → refreshed_core core set ≡ refreshed_core core other
+    → (k : ℕ) → k < products_of core.equations → set k ≡ other k

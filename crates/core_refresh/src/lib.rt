@@ -5,5 +5,5 @@ mod copied;
 mod laws;
 mod refreshes;
 
-pub use laws::{refreshed_core_size, runs_the_same};
+pub use laws::{refreshed_core_size, runs_the_same, set_is_read_off};
 pub use refreshes::refreshed;

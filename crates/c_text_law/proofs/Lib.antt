@@ -1,0 +1,9 @@
+pub mod Reading
+pub mod Expressions
+pub mod Statements
+pub mod Gadgets
+pub mod Templates
+pub mod Calls
+pub mod CoreCalls
+pub mod File
+pub mod Law

@@ -1,0 +1,4 @@
+mod Looping
+mod Choosing
+mod Short
+mod Complete

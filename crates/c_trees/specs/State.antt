@@ -1,0 +1,2 @@
+-- What the contracts of private functions cite. No public clause needs these files.
+pub mod Making

@@ -1,0 +1,2 @@
+pub mod CSubset
+pub mod Parts

@@ -4,6 +4,10 @@ use Rattle.tor_edge.specs.Count.{Rose}
 use Rattle.tor_edge.specs.declared.files.Reason.{Reason}
 use Rattle.tor_edge.specs.declared.files.Reason.TheVariants as reason
 use Rattle.tor_edge.specs.declared.files.Refusal.{Refusal as Refused}
+use Rattle.tor_edge.specs.declared.place.Place.{Place}
+use Rattle.c_tree.specs.declared.CFile.{CFile}
+use Rattle.c_syntax.specs.Syntax.{IsSyntaxFault}
+use Rattle.c_meaning.specs.CSubset.{Spells, IsBadName}
 use Rattle.usuba_trees.specs.declared.File.{File}
 use Rattle.usuba_syntax.specs.Sources.{SpellsFile, HasFault}
 use Rattle.usuba_syntax.specs.SourceFaults.{SourceFault}
@@ -32,6 +36,9 @@ count_stays reason.TooLong faults too_long others longer a b = b
 module _ (one_file : (bytes : List ℕ) (first second : File) → SpellsFile bytes first → SpellsFile bytes second → first ≡ second)
     (no_fault : (bytes : List ℕ) (file : File) (fault : SourceFault) → SpellsFile bytes file → ¬ HasFault bytes fault)
     (written_is_read : WrittenIsRead)
+    (one_c : (bytes : List ℕ) (first second : CFile) → Spells bytes first → Spells bytes second → first ≡ second)
+    (no_syntax_fault : (bytes : List ℕ) (file : CFile) (place : Place) → Spells bytes file → ¬ IsSyntaxFault bytes place)
+    (no_bad_name : (bytes : List ℕ) (file : CFile) (place : Place) → Spells bytes file → ¬ IsBadName bytes place)
     (F O E : Type 0) (faults too_long : F → ℕ) (last_refused : F → Option Refused) (fetched : F → List (List ℕ)) (out_faults : O → ℕ)
     (out_written : O → Option (List ℕ)) (err_faults : E → ℕ) (err_written : E → Option (List ℕ)) where
   module _ (file : List ℕ → Option (List ℕ)) (o : Order) (text : List ℕ) (expected : Status) (has : OrderEnds (Some file) o (answers text expected))
@@ -47,10 +54,10 @@ module _ (one_file : (bytes : List ℕ) (first second : File) → SpellsFile byt
 
     -- an answer has the status that is expected
     answer_status : (told : List ℕ) (status : Status) → OrderEnds (Some file) o (answers told status) → status ≡ expected
-    answer_status told status may = order_one one_file no_fault written_is_read file o (answers told status) (answers text expected) status expected may has refl refl
+    answer_status told status may = order_one one_file no_fault written_is_read one_c no_syntax_fault no_bad_name file o (answers told status) (answers text expected) status expected may has refl refl
 
     refused_status : (name : List ℕ) (status : Status) (fault : _) → OrderEnds (Some file) o (refused status name fault) → status ≡ expected
-    refused_status name status fault may = order_one one_file no_fault written_is_read file o (refused status name fault) (answers text expected) status expected may has refl refl
+    refused_status name status fault may = order_one one_file no_fault written_is_read one_c no_syntax_fault no_bad_name file o (refused status name fault) (answers text expected) status expected may has refl refl
 
     answered : (status : Status) → WroteAnswer (OrderEnds (Some file) o) status (out_written out_old) (out_written out_new) → Whole status
     answered status wrote =
@@ -74,16 +81,19 @@ module _ (one_file : (bytes : List ℕ) (first second : File) → SpellsFile byt
 -- a run is complete
 pub complete : ((bytes : List ℕ) (first second : File) → SpellsFile bytes first → SpellsFile bytes second → first ≡ second)
     → ((bytes : List ℕ) (file : File) (fault : SourceFault) → SpellsFile bytes file → ¬ HasFault bytes fault) → WrittenIsRead
+    → ((bytes : List ℕ) (first second : CFile) → Spells bytes first → Spells bytes second → first ≡ second)
+    → ((bytes : List ℕ) (file : CFile) (place : Place) → Spells bytes file → ¬ IsSyntaxFault bytes place)
+    → ((bytes : List ℕ) (file : CFile) (place : Place) → Spells bytes file → ¬ IsBadName bytes place)
     → {F O E : Type 0} {faults too_long : F → ℕ} {last_refused : F → Option Refused} {fetched : F → List (List ℕ)} {out_faults : O → ℕ}
     {out_written : O → Option (List ℕ)} {err_faults : E → ℕ} {err_written : E → Option (List ℕ)}
     {contents : F → Contents} {words : List (List ℕ)} {files_old files_new : F} {out_old out_new : O} {err_old err_new : E} {status : Status}
     → IsRun faults too_long last_refused fetched out_faults out_written err_faults err_written contents words files_old files_new out_old out_new err_old err_new status
     → IsComplete faults too_long contents out_faults out_written words files_old files_new out_old out_new status
-complete one_file no_fault written_is_read {F = F} {O = O} {E = E} {faults = faults} {too_long = too_long} {last_refused = last_refused} {fetched = fetched}
+complete one_file no_fault written_is_read one_c no_syntax_fault no_bad_name {F = F} {O = O} {E = E} {faults = faults} {too_long = too_long} {last_refused = last_refused} {fetched = fetched}
     {out_faults = out_faults} {out_written = out_written} {err_faults = err_faults} {err_written = err_written}
     {files_old = files_old} {files_new = files_new} {out_old = out_old} {out_new = out_new} {err_old = err_old} {err_new = err_new} {status = status}
     run o file text expected asked told has no_faults none_longer wrote_all =
-    whole one_file no_fault written_is_read F O E faults too_long last_refused fetched out_faults out_written err_faults err_written
+    whole one_file no_fault written_is_read one_c no_syntax_fault no_bad_name F O E faults too_long last_refused fetched out_faults out_written err_faults err_written
     file o text expected has files_old files_new out_old out_new err_old err_new no_faults none_longer wrote_all status
     (subst (λ (c : Contents). Shows faults too_long last_refused fetched out_faults out_written err_faults err_written (OrderEnds c o)
     files_old files_new out_old out_new err_old err_new status) told (run.ends o asked))

@@ -1,6 +1,7 @@
 -- What outcomes the steps of an order leave.
-use Rattle.std.proofs.Common.{arith, ◌≡◌, ◌⊎◌, inl, inr, List, ℕ, Option, Some, None, Ok, Err, refl, sym, ◌∙◌, ap, ap₂, subst}
+use Rattle.std.proofs.Common.{arith, ◌≡◌, ◌⊎◌, inl, inr, List, ℕ, Option, Some, None, Result, Ok, Err, refl, sym, ◌∙◌, ap, ap₂, subst}
 use Rattle.span_model.specs.Attack.{HasAttack}
+use Rattle.tor_edge.specs.declared.place.Place.{Place}
 use Rattle.usuba_trees.specs.declared.File.{File}
 use Rattle.usuba_syntax.specs.Sources.{SpellsFile, HasFault}
 use Rattle.usuba_syntax.specs.SourceFaults.{SourceFault}
@@ -41,6 +42,14 @@ use Rattle.tornado_main.specs.commands.Verify.{IsConfirmation, SpellsAttack, IsF
 use Rattle.tornado_main.specs.commands.Verify as verify
 use Rattle.tornado_main.specs.commands.Eval.{Held, IsHeld, SaysInputs, IsFaultyInputs}
 use Rattle.tornado_main.specs.commands.Eval as eval
+use Rattle.tornado_main.specs.commands.Run.{IsCFile, IsFaultyCFile, SaysRun, IsFaultyRun, RunsTo, bad_name, done, index_out, bad_shift, words_short}
+use Rattle.tornado_main.specs.commands.Run as run
+use Rattle.c_tree.specs.declared.CFile.{CFile}
+use Rattle.c_machine.specs.declared.stop.RunFault.{RunFault}
+use Rattle.c_machine.specs.declared.stop.RunFault.TheVariants as run_fault
+use Rattle.c_meaning.specs.CSubset.{Spells, IsBadName}
+use Rattle.c_syntax.specs.Syntax.{IsSyntaxFault}
+use Rattle.data_text.specs.declared.read.RunValues.{RunValues}
 use Rattle.tornado_main.specs.declared.message.Fault.{Fault}
 use Rattle.tornado_main.specs.declared.status.Status.{Status}
 use Rattle.tornado_main.specs.declared.status.Status.TheVariants as exit
@@ -73,6 +82,12 @@ compiled_fits : (file : List ℕ) (word : Option ℕ) (core : Circuit) (end : Ou
 compiled_fits file word core _ (masked c_file is) = inl refl
 compiled_fits file word core _ (other_width given other) = inl refl
 
+run_fits : (cfile values : List ℕ) (file : CFile) (said : RunValues) (end : Outcome) → RunsTo cfile values file said end → FitsOutcome end
+run_fits cfile values file said _ (done shares is) = inl refl
+run_fits cfile values file said _ (index_out k is) = inr refl
+run_fits cfile values file said _ (bad_shift k is) = inr refl
+run_fits cfile values file said _ (words_short is) = inr refl
+
 -- every outcome of an order has a status of its kind
 pub order_fits : (contents : Contents) (o : Order) (end : Outcome) → OrderEnds contents o end → FitsOutcome end
 order_fits contents (order.Core file basis) = after_fits contents file exit.Source _ _ _ (inl refl) (λ core end. done_fits _ end)
@@ -86,7 +101,8 @@ order_fits contents (order.Eval file values basis) =
 order_fits contents (order.Repair file basis) =
     after_fits contents file exit.Source _ _ _ (inl refl) (λ core end repaired. done_fits _ end repaired.3)
 order_fits contents (order.Compile file word basis) = after_fits contents file exit.Source _ _ _ (inl refl) (compiled_fits file word)
-order_fits contents (order.Run cfile values) = λ end ends. absurd ends
+order_fits contents (order.Run cfile values) =
+    after_fits contents cfile exit.Values _ _ _ (inr refl) (λ file. after_fits contents values exit.Values _ _ _ (inr refl) (λ said. run_fits cfile values file said))
 order_fits contents (order.Trial file shares seed basis) = after_fits contents file exit.Source _ _ _ (inl refl) (λ core end. done_fits _ end)
 order_fits contents (order.Gen seed size) = λ end told. done_fits _ end told.2
 
@@ -175,6 +191,40 @@ inputs_apart : (core : Circuit) (bytes : List ℕ) (a : List ℕ) (fault : Fault
 inputs_apart core bytes a _ x (eval.syntax _ line h) = let here : Ok a ≡ Err (value_fault.Syntax line) = sym x ∙ h in absurd (cc)
 inputs_apart core bytes a _ x (eval.out_of_range _ line h) = let here : Ok a ≡ Err (value_fault.OutOfRange line) = sym x ∙ h in absurd (cc)
 
+-- a run ends in one way
+run_one : (cfile values : List ℕ) (file : CFile) (said : RunValues) → HaveOneStatus (RunsTo cfile values file said)
+run_one cfile values file said _ _ s t (done a x) (done b y) hs ht = sym hs ∙ ht
+run_one cfile values file said _ _ s t (done a x) (index_out k y) hs ht = let here : Ok a ≡ Err (run_fault.IndexOut k) = sym x ∙ y in absurd (cc)
+run_one cfile values file said _ _ s t (done a x) (bad_shift k y) hs ht = let here : Ok a ≡ Err (run_fault.BadShift k) = sym x ∙ y in absurd (cc)
+run_one cfile values file said _ _ s t (done a x) (words_short y) hs ht = let here : Ok a ≡ Err run_fault.WordsShort = sym x ∙ y in absurd (cc)
+run_one cfile values file said _ _ s t (index_out k x) (done a y) hs ht = let here : Ok a ≡ Err (run_fault.IndexOut k) = sym y ∙ x in absurd (cc)
+run_one cfile values file said _ _ s t (index_out k x) (index_out l y) hs ht = sym hs ∙ ht
+run_one cfile values file said _ _ s t (index_out k x) (bad_shift l y) hs ht = sym hs ∙ ht
+run_one cfile values file said _ _ s t (index_out k x) (words_short y) hs ht = sym hs ∙ ht
+run_one cfile values file said _ _ s t (bad_shift k x) (done a y) hs ht = let here : Ok a ≡ Err (run_fault.BadShift k) = sym y ∙ x in absurd (cc)
+run_one cfile values file said _ _ s t (bad_shift k x) (index_out l y) hs ht = sym hs ∙ ht
+run_one cfile values file said _ _ s t (bad_shift k x) (bad_shift l y) hs ht = sym hs ∙ ht
+run_one cfile values file said _ _ s t (bad_shift k x) (words_short y) hs ht = sym hs ∙ ht
+run_one cfile values file said _ _ s t (words_short x) (done a y) hs ht = let here : Ok a ≡ Err run_fault.WordsShort = sym y ∙ x in absurd (cc)
+run_one cfile values file said _ _ s t (words_short x) (index_out l y) hs ht = sym hs ∙ ht
+run_one cfile values file said _ _ s t (words_short x) (bad_shift l y) hs ht = sym hs ∙ ht
+run_one cfile values file said _ _ s t (words_short x) (words_short y) hs ht = sym hs ∙ ht
+
+-- a text says one run's data, and none where it has a fault
+run_values_one : (file : CFile) (bytes : List ℕ) (a b : RunValues) → SaysRun file a bytes → SaysRun file b bytes → a ≡ b
+run_values_one file bytes a b x y = let here : Ok a ≡ Ok b = sym x ∙ y in cc
+
+run_values_apart : (file : CFile) (bytes : List ℕ) (a : RunValues) (fault : Fault) → SaysRun file a bytes → ¬ IsFaultyRun file fault bytes
+run_values_apart file bytes a _ x (run.syntax _ line h) = let here : Ok a ≡ Err (value_fault.Syntax line) = sym x ∙ h in absurd (cc)
+run_values_apart file bytes a _ x (run.out_of_range _ line h) = let here : Ok a ≡ Err (value_fault.OutOfRange line) = sym x ∙ h in absurd (cc)
+
+-- a file of C has no fault
+c_apart : ((bytes : List ℕ) (file : CFile) (place : Place) → Spells bytes file → ¬ IsSyntaxFault bytes place)
+    → ((bytes : List ℕ) (file : CFile) (place : Place) → Spells bytes file → ¬ IsBadName bytes place)
+    → (bytes : List ℕ) (file : CFile) (fault : Fault) → IsCFile file bytes → ¬ IsFaultyCFile fault bytes
+c_apart no_syntax no_name bytes file _ x (run.syntax _ at h) = no_syntax bytes file at x h
+c_apart no_syntax no_name bytes file _ x (bad_name _ at h) = no_name bytes file at x h
+
 -- a file without a fault has none
 pub no_judged_fault : (asked_width : Option ℕ) (asked_entry : Option (List ℕ)) (file : File) (fault : JudgedFault)
     → fault_of asked_width asked_entry file ≡ None → ¬ (fault_of asked_width asked_entry file ≡ Some fault)
@@ -257,23 +307,31 @@ module _ (one_file : (bytes : List ℕ) (first second : File) → SpellsFile byt
       let texts : x.bytes ≡ y.bytes = p.same ∙ sym q.same in
       ap₂ (λ (c : Circuit) (k : List ℕ). record { core = c; bytes = k }) cores texts
 
+module _ (one_file : (bytes : List ℕ) (first second : File) → SpellsFile bytes first → SpellsFile bytes second → first ≡ second)
+    (no_fault : (bytes : List ℕ) (file : File) (fault : SourceFault) → SpellsFile bytes file → ¬ HasFault bytes fault)
+    (written_is_read : WrittenIsRead)
+    (one_c : (bytes : List ℕ) (first second : CFile) → Spells bytes first → Spells bytes second → first ≡ second)
+    (no_syntax_fault : (bytes : List ℕ) (file : CFile) (place : Place) → Spells bytes file → ¬ IsSyntaxFault bytes place)
+    (no_bad_name : (bytes : List ℕ) (file : CFile) (place : Place) → Spells bytes file → ¬ IsBadName bytes place) where
   -- all outcomes of an order but refused fetches have one status
   pub order_one : (file : List ℕ → Option (List ℕ)) (o : Order) → HaveOneStatus (OrderEnds (Some file) o)
-  order_one file (order.Core name b) = after_one file name exit.Source _ _ _ (held_one b) (held_apart b) (λ core. done_one (core_text core))
-  order_one file (order.Rows name b) = after_one file name exit.Source _ _ _ (held_one b) (held_apart b) (λ core. done_one (rows_text (core_view core)))
-  order_one file (order.Check name b) = after_one file name exit.Source _ _ _ (held_one b) (held_apart b) verdict_one
+  order_one file (order.Core name b) = after_one file name exit.Source _ _ _ (held_one one_file no_fault written_is_read b) (held_apart one_file no_fault written_is_read b) (λ core. done_one (core_text core))
+  order_one file (order.Rows name b) = after_one file name exit.Source _ _ _ (held_one one_file no_fault written_is_read b) (held_apart one_file no_fault written_is_read b) (λ core. done_one (rows_text (core_view core)))
+  order_one file (order.Check name b) = after_one file name exit.Source _ _ _ (held_one one_file no_fault written_is_read b) (held_apart one_file no_fault written_is_read b) verdict_one
   order_one file (order.Verify name attack b) =
-      after_one file name exit.Source _ _ _ (held_one b) (held_apart b)
+      after_one file name exit.Source _ _ _ (held_one one_file no_fault written_is_read b) (held_apart one_file no_fault written_is_read b)
       (λ core. after_one file attack exit.Values _ _ _ (attack_one (core_view core)) (attack_apart (core_view core)) (confirmation_one core))
   order_one file (order.Eval name values b) =
-      after_one file name exit.Source _ _ _ (core_held_one b) (λ bytes held fault is. held_apart b bytes held.core fault is.core)
+      after_one file name exit.Source _ _ _ (core_held_one one_file no_fault written_is_read b) (λ bytes held fault is. held_apart one_file no_fault written_is_read b bytes held.core fault is.core)
       (λ held. after_one file values exit.Values _ _ _ (inputs_one held.core) (inputs_apart held.core)
       (λ inputs end other s t x y hs ht. answers_one _ _ end other s t x.2 y.2 hs ht))
   order_one file (order.Repair name b) =
-      after_one file name exit.Source _ _ _ (held_one b) (held_apart b)
+      after_one file name exit.Source _ _ _ (held_one one_file no_fault written_is_read b) (held_apart one_file no_fault written_is_read b)
       (λ core end other s t x y hs ht. answers_one _ _ end other s t x.3 y.3 hs ht)
-  order_one file (order.Compile name word b) = after_one file name exit.Source _ _ _ (held_one b) (held_apart b) (compiled_one name word)
-  order_one file (order.Run cfile values) = λ end other s t x y hs ht. absurd x
+  order_one file (order.Compile name word b) = after_one file name exit.Source _ _ _ (held_one one_file no_fault written_is_read b) (held_apart one_file no_fault written_is_read b) (compiled_one name word)
+  order_one file (order.Run cfile values) =
+      after_one file cfile exit.Values _ _ _ one_c (c_apart no_syntax_fault no_bad_name)
+      (λ c. after_one file values exit.Values _ _ _ (run_values_one c) (run_values_apart c) (run_one cfile values c))
   order_one file (order.Trial name shares seed b) =
-      after_one file name exit.Source _ _ _ (held_one b) (held_apart b) (λ core. done_one (trial_text (trial_of shares core seed)))
+      after_one file name exit.Source _ _ _ (held_one one_file no_fault written_is_read b) (held_apart one_file no_fault written_is_read b) (λ core. done_one (trial_text (trial_of shares core seed)))
   order_one file (order.Gen seed size) = λ end other s t x y hs ht. answers_one _ _ end other s t x.2 y.2 hs ht

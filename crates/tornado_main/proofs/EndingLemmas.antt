@@ -242,3 +242,33 @@ unsent_shows out_faults out_written May out_old out_new text s (refusal.Faulty s
 unsent_shows out_faults out_written May out_old out_new text s (refusal.Unread name why) may sent = absurd sent
 unsent_shows out_faults out_written May out_old out_new text s refusal.Unwritten may sent = record { text = text; status = s; allowed = may; rose = sent.0; prefix = sent.1 }
 unsent_shows out_faults out_written May out_old out_new text s refusal.Memory may sent = sent
+
+ended_inside : {F O T : Type 0} {faults too_long : F → ℕ} {last_refused : F → Option Refused} {fetched : F → List (List ℕ)} {contents : F → Contents}
+    {out_faults : O → ℕ} {out_written : O → Option (List ℕ)} {names : List (List ℕ)} {May : Outcome → Type 0} {old new : F} {out : O} {x : T}
+    (Inside : Outcome → Type 0) → ((name : List ℕ) (why : Reason) → ¬ Inside (unread name why)) → (e : Refusal)
+    → Fetched faults too_long last_refused fetched contents names old new (Ok x) → Stops Inside e → Stops May e
+    → Ends faults too_long last_refused fetched contents out_faults out_written names May old new out out (Err e)
+ended_inside {names = names} Inside none (refusal.Faulty status name fault) step inside stops = record {
+  contents_stay = step.contents_stay;
+  fetches = record { taken = names; left = []; in_order = append-nil names; fetched = step.takes };
+  refuses = step.refuses;
+  shown = (stops, refl);
+}
+ended_inside Inside none (refusal.Unread name why) step inside stops = absurd (none name.now why inside)
+ended_inside Inside none refusal.Unwritten step inside stops = absurd inside
+ended_inside {names = names} Inside none refusal.Memory step inside stops = record {
+  contents_stay = step.contents_stay;
+  fetches = record { taken = names; left = []; in_order = append-nil names; fetched = step.takes };
+  refuses = step.refuses;
+  shown = refl;
+}
+
+-- an order is refused after its fetches, by a step that fetches nothing
+pub stopped_inside : {F O T : Type 0} {faults too_long : F → ℕ} {last_refused : F → Option Refused} {fetched : F → List (List ℕ)} {contents : F → Contents}
+    {out_faults : O → ℕ} {out_written : O → Option (List ℕ)} {names : List (List ℕ)} {May : Outcome → Type 0} {old new : F} {out : O} {x : T}
+    (Inside : Outcome → Type 0) → ((name : List ℕ) (why : Reason) → ¬ Inside (unread name why)) → (e : Refusal) {r : Result Status Refusal}
+    → IsErrAnd r (λ k. k ≡ e) → Fetched faults too_long last_refused fetched contents names old new (Ok x) → Stops Inside e → Stops May e
+    → Ends faults too_long last_refused fetched contents out_faults out_written names May old new out out r
+stopped_inside {faults = faults} {too_long = too_long} {last_refused = last_refused} {fetched = fetched} {contents = contents} {out_faults = out_faults} {out_written = out_written} {names = names} {May = May} {old = old} {new = new} {out = out} Inside none e {r = r} is step inside stops =
+    so_refused (λ r. Ends faults too_long last_refused fetched contents out_faults out_written names May old new out out r) e r is
+    (ended_inside Inside none e step inside stops)

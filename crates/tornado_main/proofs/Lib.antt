@@ -15,3 +15,5 @@ pub mod HeadlineLemmas
 pub mod CompletenessLemmas
 pub mod AttackTextLemmas
 pub mod InputsLemmas
+pub mod RunCLemmas
+pub mod RunTextLemmas

@@ -47,6 +47,10 @@ complaint_text complaint.LimitPassed = codes "limit passed"
 complaint_text complaint.OutOfRange = codes "out of range"
 complaint_text complaint.OtherCore = codes "another core"
 complaint_text complaint.WordSize = codes "word size needs width 1"
+complaint_text complaint.BadName = codes "bad name"
+complaint_text complaint.IndexOut = codes "index out of range"
+complaint_text complaint.BadShift = codes "bad shift"
+complaint_text complaint.WordsShort = codes "random words too few"
 
 -- where a file is at fault, behind its name: nothing of the file as a whole, a line, a line and a column, or the
 -- number of a call

@@ -10,10 +10,11 @@ use Rattle.tornado_main.specs.commands.Eval.{EvalEnds}
 use Rattle.tornado_main.specs.commands.Trial.{TrialEnds}
 use Rattle.tornado_main.specs.commands.Gen.{GenEnds}
 use Rattle.tornado_main.specs.commands.Compile.{CompileEnds}
+use Rattle.tornado_main.specs.commands.Run.{RunEnds}
 use Rattle.tornado_words.specs.declared.order.Order.{Order}
 use Rattle.tornado_words.specs.declared.order.Order.TheVariants as order
 
--- an order may end so on files of these contents; one whose command is not built is carried out in no way
+-- an order may end so on files of these contents
 abbrev pub OrderEnds : Contents → Order → Outcome → Type 0
 OrderEnds contents (order.Core file basis) = CoreEnds contents file basis
 OrderEnds contents (order.Rows file basis) = RowsEnds contents file basis
@@ -24,4 +25,4 @@ OrderEnds contents (order.Eval file values basis) = EvalEnds contents file value
 OrderEnds contents (order.Trial file shares seed basis) = TrialEnds contents file shares seed basis
 OrderEnds contents (order.Gen seed size) = GenEnds seed size
 OrderEnds contents (order.Compile file word basis) = CompileEnds contents file word basis
-OrderEnds contents _ = λ end. ⊥
+OrderEnds contents (order.Run cfile values) = RunEnds contents cfile values

@@ -8,3 +8,4 @@ pub mod Trial
 pub mod Repair
 pub mod Gen
 pub mod Compile
+pub mod Run

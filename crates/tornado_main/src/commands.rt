@@ -2,9 +2,8 @@
 
 ghost use Rattle.tornado_main.specs.Ending.{Ends};
 ghost use Rattle.tornado_main.specs.Orders.{OrderEnds};
-ghost use Rattle.std.specs.Prelude.{◌≡◌, true};
 ghost use Rattle.tornado_words.specs.Ranges.{IsInRange};
-ghost use Rattle.tornado_main.specs.Words.{is_built, files_of};
+ghost use Rattle.tornado_main.specs.Words.{files_of};
 
 mod check;
 mod compile;
@@ -13,6 +12,7 @@ mod generate;
 mod print_core;
 mod print_repaired;
 mod print_rows;
+mod print_shares;
 mod print_trial;
 mod verify;
 
@@ -29,8 +29,7 @@ pub fn carry_out<'a, F: Files, O: Sink>(
     files: &mut F,
     out: &mut O,
 ) -> Result<Status, Refusal<'a>>
-    requires built { is_built order.now ≡ true }
-    requires range { IsInRange order.now }
+    requires { IsInRange order.now }
     ensures { Ends F.faults F.too_long F.refused F.fetched F.contents O.faults O.written (files_of order.now) (OrderEnds (F.contents files.old) order.now)
         files.old files.new out.old out.new result }
 {
@@ -78,6 +77,8 @@ pub fn carry_out<'a, F: Files, O: Sink>(
             files,
             out,
         ),
-        _ => unreachable!(),
+        Order::Run { cfile, values } => {
+            print_shares::print_shares(alloc, cfile.as_str(), values.as_str(), files, out)
+        }
     }
 }

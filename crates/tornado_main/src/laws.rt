@@ -1,5 +1,6 @@
 ghost use Rattle.tornado_main.specs.Coverage.{AttackOrFault, CoreOrFault, InputsOrFault, OutcomesAgree};
 
+use c_meaning::one_file;
 use core_text::{core_or_fault, read_is_written, written_is_read};
 use data_text::values_or_fault;
 use source_shapes::judged_takes_and_gives;
@@ -13,6 +14,7 @@ pub fn outcomes_agree()
 {
     one_source();
     written_is_read();
+    one_file();
 }
 
 /// All bytes have a core within both limits or a fault, whatever they are read as.

@@ -24,6 +24,10 @@ pub enum Complaint {
     OutOfRange,
     OtherCore,
     WordSize,
+    BadName,
+    IndexOut,
+    BadShift,
+    WordsShort,
 }
 
 /// Where in a file something is wrong.
@@ -66,6 +70,10 @@ impl Complaint {
             Complaint::OutOfRange => "out of range",
             Complaint::OtherCore => "another core",
             Complaint::WordSize => "word size needs width 1",
+            Complaint::BadName => "bad name",
+            Complaint::IndexOut => "index out of range",
+            Complaint::BadShift => "bad shift",
+            Complaint::WordsShort => "random words too few",
         }
     }
 }

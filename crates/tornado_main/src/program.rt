@@ -8,6 +8,7 @@ use crate::message::{Complaint, write_complaint};
 use crate::refusal::Refusal;
 use crate::status::Status;
 use crate::words::order_of;
+use c_meaning::one_file;
 use core_text::written_is_read;
 use masked_meaning::{
     lanes_are_runs, masked_code_computes_the_core, masked_code_computes_the_source,
@@ -38,6 +39,7 @@ pub fn tornado<F: Files, O: Sink, E: Sink>(
 {
     one_source();
     written_is_read();
+    one_file();
     masked_code_computes_the_core();
     masked_code_computes_the_source();
     masked_lanes_compute_the_source();

@@ -119,3 +119,14 @@ pub fn faulty_file<'a>(status: Status, name: &'a str, what: Complaint) -> Refusa
     };
     Refusal::Faulty(status, name, fault)
 }
+
+/// The refusal of a file for what is wrong in one of its calls.
+pub fn faulty_call<'a>(status: Status, name: &'a str, call: u64, what: Complaint) -> Refusal<'a>
+    ensures { result ≡ Refusal.Faulty status name.entry (record { at = Spot.Call call; what = what }) }
+{
+    let fault = Fault {
+        at: Spot::Call(call),
+        what,
+    };
+    Refusal::Faulty(status, name, fault)
+}

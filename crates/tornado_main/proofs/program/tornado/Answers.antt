@@ -9,4 +9,5 @@ returns-clause-headline g c =
 
 pub returns-clause-complete : goal.returns-clause-complete
 returns-clause-complete g c =
-    complete c.one_source.ensures.file c.one_source.ensures.apart c.written_is_read.ensures c.run_words.ensures
+    complete c.one_source.ensures.file c.one_source.ensures.apart c.written_is_read.ensures c.one_file.ensures.file c.one_file.ensures.syntax
+    c.one_file.ensures.names c.run_words.ensures

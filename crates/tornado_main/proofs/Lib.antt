@@ -15,5 +15,6 @@ pub mod HeadlineLemmas
 pub mod CompletenessLemmas
 pub mod AttackTextLemmas
 pub mod InputsLemmas
+pub mod RunDataLemmas
 pub mod RunCLemmas
 pub mod RunTextLemmas

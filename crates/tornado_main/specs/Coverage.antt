@@ -3,6 +3,8 @@ use Rattle.std.specs.Prelude.{◌≡◌, ◌⊎◌, ℕ, List, Option, Some}
 use Rattle.usuba0.specs.Circuit.{Circuit}
 use Rattle.linear_view.specs.View.{LinearView}
 use Rattle.attack_model.specs.declared.attack.Attack.{Attack}
+use Rattle.c_tree.specs.declared.CFile.{CFile}
+use Rattle.data_text.specs.declared.read.RunValues.{RunValues}
 use Rattle.tornado_words.specs.Ranges.{HasFitWidth}
 use Rattle.tornado_words.specs.declared.order.Basis.{Basis}
 use Rattle.tornado_main.specs.Bases.{Holds, IsFaulty}
@@ -10,6 +12,7 @@ use Rattle.tornado_main.specs.Files.{Contents}
 use Rattle.tornado_main.specs.Orders.{OrderEnds}
 use Rattle.tornado_main.specs.Outcome.{Outcome, answers, refused, unread}
 use Rattle.tornado_main.specs.commands.Eval.{SaysInputs, IsFaultyInputs}
+use Rattle.tornado_main.specs.commands.Run.{IsCFile, IsFaultyCFile, SaysRun, IsFaultyRun}
 use Rattle.tornado_main.specs.commands.Verify.{SpellsAttack, IsFaultyAttack}
 use Rattle.tornado_main.specs.declared.message.Fault.{Fault}
 use Rattle.tornado_main.specs.declared.status.Status.{Status}
@@ -50,3 +53,13 @@ AttackOrFault = (view : LinearView) (bytes : List ℕ)
 abbrev pub InputsOrFault : Type 0
 InputsOrFault = (core : Circuit) (bytes : List ℕ)
     → ((inputs : List ℕ) × SaysInputs core inputs bytes) ⊎ ((fault : Fault) × IsFaultyInputs core fault bytes)
+
+-- all bytes are a file of C, or have a fault as one
+abbrev pub CFileOrFault : Type 0
+CFileOrFault = (bytes : List ℕ)
+    → ((file : CFile) × IsCFile file bytes) ⊎ ((fault : Fault) × IsFaultyCFile fault bytes)
+
+-- all bytes say the data of a run of a file, or have a fault as these
+abbrev pub RunDataOrFault : Type 0
+RunDataOrFault = (file : CFile) (bytes : List ℕ)
+    → ((said : RunValues) × SaysRun file said bytes) ⊎ ((fault : Fault) × IsFaultyRun file fault bytes)

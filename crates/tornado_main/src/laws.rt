@@ -1,8 +1,9 @@
-ghost use Rattle.tornado_main.specs.Coverage.{AttackOrFault, CoreOrFault, InputsOrFault, OutcomesAgree};
+ghost use Rattle.tornado_main.specs.Coverage.{AttackOrFault, CFileOrFault, CoreOrFault, InputsOrFault, OutcomesAgree};
+ghost use Rattle.tornado_main.specs.Coverage.{RunDataOrFault};
 
-use c_meaning::one_file;
+use c_meaning::{file_or_fault as c_file_or_fault, one_file};
 use core_text::{core_or_fault, read_is_written, written_is_read};
-use data_text::values_or_fault;
+use data_text::{run_or_fault, values_or_fault};
 use source_shapes::judged_takes_and_gives;
 use source_terms::meanings_agree;
 use usuba_model::judged_or_faulty;
@@ -39,4 +40,18 @@ pub fn file_has_inputs_or_fault()
     ensures { InputsOrFault }
 {
     values_or_fault();
+}
+
+/// All bytes are a file of C, or have a fault as one.
+pub fn file_is_c_or_fault()
+    ensures { CFileOrFault }
+{
+    c_file_or_fault();
+}
+
+/// All bytes say the data of a run of a file of C, or have a fault as these.
+pub fn file_has_run_data_or_fault()
+    ensures { RunDataOrFault }
+{
+    run_or_fault();
 }

@@ -1,5 +1,5 @@
 //! Files and a sink that never fail.
-ghost use Rattle.std.specs.Prelude.{◌≡◌, ◌≢◌, ℕ, ◌+◌, ◌-◌, ◌<◌, ◌≤◌, ◌^◌, ◌↔◌, [], None, Some, All, length, min, IfSome, IfOk, IsTrue, IsNone, IsErrOf, OnOk, OnErr};
+ghost use Rattle.std.specs.Prelude.{◌≡◌, ◌≢◌, ℕ, ◌+◌, ◌-◌, ◌<◌, ◌≤◌, ◌^◌, ◌↔◌, [], None, Some, All, length, min, IfSome, IfOk, IsOk, IsTrue, IsNone, IsErrOf, OnOk, OnErr};
 ghost use Rattle.std.specs.Option.{unwrap_or};
 ghost use Rattle.tor_edge.specs.Count.{Rose};
 ghost use Rattle.tor_edge.specs.Fetch.{OnFailed, OnTooLong, OnOkOrTooLong, OnOkOrMemory};
@@ -97,7 +97,10 @@ impl Sink for SteadySink {
 
     ghost written = { λ sink. None };
 
-    fn put(&mut self, piece: &[u8]) -> Result<(), PutFault> {
+    fn put(&mut self, piece: &[u8]) -> Result<(), PutFault>
+        ensures never_fails { IsOk result }
+        ensures counted { self.new.taken ≡ min (self.old.taken + length piece.now) 18446744073709551615 }
+    {
         self.taken = self.taken.saturating_add(piece.len() as u64);
         Ok(())
     }

@@ -3,7 +3,7 @@ ghost use Rattle.tor_edge.specs.Written.{Wrote};
 ghost use Rattle.tornado_main.specs.Message.{kind_text, complaint_text, spot_text, run_message, file_message};
 
 use tor_edge::{Piece, Place, PutFault, Sink, put_pieces, put_text};
-use usuba_model::FaultKind;
+use usuba_types::FaultKind;
 
 /// What is wrong.
 #[derive(Debug, Clone, Copy, PartialEq, Eq)]

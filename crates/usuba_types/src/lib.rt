@@ -12,3 +12,4 @@ mod sizes;
 pub use judging::{JudgeFault, Judged, judge};
 pub use laws::numbered_sizes;
 pub use sizes::{CappedSize, size_of_node};
+pub use usuba_model::FaultKind;

@@ -105,6 +105,7 @@ inner_names gadget =
 abbrev pub gadget_names : List CFun → CFun → List Bool
 gadget_names earlier gadget = (not (is_some (gadget_called earlier gadget.name)) ∷ []) ++ inner_names gadget
 
+-- the names of gadgets, where these stand before them
 abbrev pub gadgets_names : List CFun → List CFun → List Bool
 gadgets_names earlier [] = []
 gadgets_names earlier (gadget ∷ gadgets) =
@@ -133,6 +134,7 @@ abbrev pub call_fits : Option CFun → List CArg → Bool
 call_fits None arguments = false
 call_fits (Some gadget) arguments = take_all gadget.params arguments
 
+-- the name of a call is right: it is that of a gadget, and the arguments fit
 abbrev pub call_is_right : List CFun → CCall → Bool
 call_is_right gadgets call = call_fits (gadget_called gadgets call.gadget) call.args
 

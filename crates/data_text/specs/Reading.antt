@@ -64,6 +64,7 @@ values_in count bits text = do
   taken ← first_numbers (has_bits bits) count text.end text.tokens
   with_nothing_left taken.0 taken.1
 
+-- the values that a text says
 abbrev pub values_of : ℕ → ℕ → List ℕ → Result (List ℕ) ValueFault
 values_of count bits bytes = values_in count bits (tokens_of bytes)
 
@@ -93,6 +94,7 @@ run_in inputs bits text = do
   drawn ← words_first text.end given.1
   Ok (record { shares = counted.0; inputs = given.0; words = drawn.0 })
 
+-- the data of a run that a text says
 abbrev pub run_of : ℕ → ℕ → List ℕ → Result RunValues ValueFault
 run_of inputs bits bytes = run_in inputs bits (tokens_of bytes)
 

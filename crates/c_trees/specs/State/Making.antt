@@ -62,6 +62,7 @@ op_of_sign sign.Bar = op.Or
 op_of_sign sign.ShiftLeft = op.Shl
 op_of_sign sign.ShiftRight = op.Shr
 
+-- a token as an operator; one that is none as that of a difference
 abbrev pub op_of : TokenKind → COp
 op_of (kind.Keyword k) = op.Sub
 op_of (kind.Sign s) = op_of_sign s
@@ -91,6 +92,7 @@ first_of_keyword keyword.Out = first.Out
 first_of_keyword keyword.In = first.In
 first_of_keyword keyword.Slots = first.Slots
 
+-- a sign as what a choice is made by
 abbrev pub first_of_sign : Sign → First
 first_of_sign sign.OpenRound = first.Bracket
 first_of_sign sign.CloseRound = first.Other
@@ -111,6 +113,7 @@ first_of_sign sign.Bar = first.Other
 first_of_sign sign.ShiftLeft = first.Other
 first_of_sign sign.ShiftRight = first.Other
 
+-- a token as what a choice is made by
 abbrev pub first_of_kind : TokenKind → First
 first_of_kind (kind.Keyword k) = first_of_keyword k
 first_of_kind (kind.Sign s) = first_of_sign s
@@ -122,18 +125,22 @@ abbrev pub first_of : List Token → First
 first_of [] = first.Other
 first_of (t ∷ rest) = first_of_kind t.kind
 
+-- the name that the first token is
 abbrev pub name_in : List Token → List ℕ
 name_in [] = []
 name_in (t ∷ rest) = name_of t.kind
 
+-- the number that the first token is
 abbrev pub number_in : List Token → ℕ
 number_in [] = 0
 number_in (t ∷ rest) = number_of t.kind
 
+-- the operator that the first token is
 abbrev pub op_in : List Token → COp
 op_in [] = op.Sub
 op_in (t ∷ rest) = op_of t.kind
 
+-- the index that the first token is
 abbrev pub idx_in : List Token → CIndex
 idx_in [] = index.Number 0
 idx_in (t ∷ rest) = idx_of t.kind
@@ -161,6 +168,7 @@ bracket_of next first.Comma text = two_of next (next (drop 1 text))
 bracket_of next first.Close text = two_of next (next (drop 1 text))
 bracket_of next first.Other text = two_of next (next (drop 1 text))
 
+-- an expression that begins with such a token, where one inside it is read so
 abbrev pub ex_by : (List Token → CExpr × List Token) → First → List Token → CExpr × List Token
 ex_by next first.Bracket text = bracket_of next (first_of (drop 1 text)) text
 ex_by next first.Name text = (tree.Word (name_in text), drop 1 text)
@@ -188,7 +196,7 @@ abbrev pub low_by : Bool → List Token → CLow × List Token
 low_by true text = (low.After (name_in text), drop 3 text)
 low_by false text = (low.Number (number_in text), drop 1 text)
 
--- whether the first token is a name, `}`, `void`, `reg`, or a comma
+-- a name
 abbrev pub is_name : First → Bool
 is_name first.Bracket = false
 is_name first.Name = true
@@ -206,6 +214,7 @@ is_name first.Comma = false
 is_name first.Close = false
 is_name first.Other = false
 
+-- a closing curly bracket
 abbrev pub is_close : First → Bool
 is_close first.Bracket = false
 is_close first.Name = false
@@ -223,6 +232,7 @@ is_close first.Comma = false
 is_close first.Close = true
 is_close first.Other = false
 
+-- the word `void`
 abbrev pub is_void : First → Bool
 is_void first.Bracket = false
 is_void first.Name = false
@@ -240,6 +250,7 @@ is_void first.Comma = false
 is_void first.Close = false
 is_void first.Other = false
 
+-- the word `reg`
 abbrev pub is_reg : First → Bool
 is_reg first.Bracket = false
 is_reg first.Name = false
@@ -257,6 +268,7 @@ is_reg first.Comma = false
 is_reg first.Close = false
 is_reg first.Other = false
 
+-- a comma
 abbrev pub is_comma : First → Bool
 is_comma first.Bracket = false
 is_comma first.Name = false
@@ -285,20 +297,24 @@ items_of ends next (suc n) text =
 abbrev pub with_first : {X : Type 0} → X → List X × List Token → List X × List Token
 with_first item others = (item ∷ others.0, others.1)
 
+-- statements and calls end before a closing curly bracket
 abbrev pub closes : List Token → Bool
 closes text = is_close (first_of text)
 
+-- gadgets end before the word `void`, which begins the masked function
 abbrev pub ends_gadgets : List Token → Bool
 ends_gadgets text = is_void (first_of text)
 
+-- parameters and arguments end where no comma follows
 abbrev pub ends_list : List Token → Bool
 ends_list text = not (is_comma (first_of text))
 
--- a statement, where statements inside a loop are read so
+-- an assignment to an array's cell
 abbrev pub assign_of : List Token → CStmt × List Token
 assign_of text =
     (statement.Assign (name_in text) (idx_in (drop 2 text)) (ex_of 129 (drop 8 text)).0, drop 1 (ex_of 129 (drop 8 text)).1)
 
+-- a declaration of a word
 abbrev pub let_of : List Token → CStmt × List Token
 let_of text = (statement.Let (name_in (drop 1 text)) (ex_of 129 (drop 3 text)).0, drop 1 (ex_of 129 (drop 3 text)).1)
 
@@ -306,12 +322,14 @@ let_of text = (statement.Let (name_in (drop 1 text)) (ex_of 129 (drop 3 text)).0
 abbrev pub low_in : List Token → CLow × List Token
 low_in text = low_by (is_name (first_of (drop 5 text))) (drop 5 text)
 
+-- a loop, where the statements inside it are read so
 abbrev pub for_of : (List Token → List CStmt × List Token) → List Token → CStmt × List Token
 for_of next text = (
   statement.For (name_in (drop 3 text)) (low_in text).0 (next (drop 9 (low_in text).1)).0,
   drop 1 (next (drop 9 (low_in text).1)).1,
 )
 
+-- a statement that begins with such a token, where the statements inside a loop are read so
 abbrev pub stmt_by : (List Token → List CStmt × List Token) → First → List Token → CStmt × List Token
 stmt_by next first.Word text = let_of text
 stmt_by next first.For text = for_of next text
@@ -329,6 +347,7 @@ stmt_by next first.Comma text = assign_of text
 stmt_by next first.Close text = assign_of text
 stmt_by next first.Other text = assign_of text
 
+-- a statement with at most so many loops inside one another
 abbrev pub stmt_of : ℕ → List Token → CStmt × List Token
 stmt_of zero text = stmt_by (λ rest. ([], rest)) (first_of text) text
 stmt_of (suc loops) text = stmt_by (λ rest. items_of closes (stmt_of loops) (length rest) rest) (first_of text) text
@@ -337,13 +356,16 @@ stmt_of (suc loops) text = stmt_by (λ rest. items_of closes (stmt_of loops) (le
 abbrev pub stmts_of : ℕ → List Token → List CStmt × List Token
 stmts_of loops text = items_of closes (stmt_of loops) (length text) text
 
+-- a parameter: an array where it begins with `reg`, else a word
 abbrev pub param_by : Bool → List Token → CParam × List Token
 param_by true text = (param.Array (name_in (drop 1 text)), drop 5 text)
 param_by false text = (param.Word (name_in (drop 1 text)), drop 2 text)
 
+-- a parameter
 abbrev pub param_of : List Token → CParam × List Token
 param_of text = param_by (is_reg (first_of text)) text
 
+-- a parameter behind a comma
 abbrev pub next_param : List Token → CParam × List Token
 next_param text = param_of (drop 1 text)
 
@@ -351,18 +373,22 @@ next_param text = param_of (drop 1 text)
 abbrev pub more_params : List Token → List CParam × List Token
 more_params text = items_of ends_list next_param (length text) text
 
+-- the parameters of a gadget
 abbrev pub params_of : List Token → List CParam × List Token
 params_of text = with_first (param_of text).0 (more_params (param_of text).1)
 
+-- a gadget
 abbrev pub gadget_of : List Token → CFun × List Token
 gadget_of text =
     let params = params_of (drop 4 text) in
     let body = stmts_of 2 (drop 2 params.1) in
     (record { name = name_in (drop 2 text); params = params.0; body = body.0 }, drop 1 body.1)
 
+-- gadgets up to the masked function
 abbrev pub gadgets_of : List Token → List CFun × List Token
 gadgets_of text = items_of ends_gadgets gadget_of (length text) text
 
+-- an argument that begins with such a token
 abbrev pub arg_by : First → List Token → CArg × List Token
 arg_by first.Out text = (arg.Out (number_in (drop 2 text)), drop 4 text)
 arg_by first.In text = (arg.Input (number_in (drop 2 text)), drop 4 text)
@@ -380,21 +406,27 @@ arg_by first.Comma text = (arg.Number (number_in (drop 2 text)), drop 4 text)
 arg_by first.Close text = (arg.Number (number_in (drop 2 text)), drop 4 text)
 arg_by first.Other text = (arg.Number (number_in (drop 2 text)), drop 4 text)
 
+-- an argument
 abbrev pub arg_of : List Token → CArg × List Token
 arg_of text = arg_by (first_of text) text
 
+-- an argument behind a comma
 abbrev pub next_arg : List Token → CArg × List Token
 next_arg text = arg_of (drop 1 text)
 
+-- the arguments behind commas
 abbrev pub more_args : List Token → List CArg × List Token
 more_args text = items_of ends_list next_arg (length text) text
 
+-- the arguments of a call
 abbrev pub args_of : List Token → List CArg × List Token
 args_of text = with_first (arg_of text).0 (more_args (arg_of text).1)
 
+-- a call of a gadget
 abbrev pub call_of : List Token → CCall × List Token
 call_of text = let args = args_of (drop 2 text) in (record { gadget = name_in text; args = args.0 }, drop 2 args.1)
 
+-- calls up to the closing curly bracket
 abbrev pub calls_of : List Token → List CCall × List Token
 calls_of text = items_of closes call_of (length text) text
 
@@ -402,13 +434,16 @@ calls_of text = items_of closes call_of (length text) text
 abbrev pub narrow : ℕ → ℕ
 narrow n = if nat_lt n (2 ^ 32) then n else 0
 
+-- the number of rows of `in` or `out`
 abbrev pub rows_in : List Token → ℕ
 rows_in text = narrow (number_in (drop 1 text))
 
+-- the number of slots where they are declared, else none
 abbrev pub slots_by : Bool → List Token → ℕ × List Token
 slots_by true text = (narrow (number_in (drop 3 text)), drop 9 text)
 slots_by false text = (0, text)
 
+-- the number of slots
 abbrev pub slots_of : List Token → ℕ × List Token
 slots_of text = slots_by (is_reg (first_of text)) text
 

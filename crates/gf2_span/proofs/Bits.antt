@@ -13,8 +13,8 @@ use Rattle.std.proofs.lemmas.List.FromFn.{length-map-range_with_len, get_or-map-
 use Rattle.std.proofs.lemmas.Nat.{one_shl}
 use Rattle.std.proofs.lemmas.Nat.Bits.{bit_at-zero, bit_at-lt, bit_at_xor, bit_at-pow_same, bit_at-pow_other, shr_and_one}
 use Rattle.span_model.specs.Columns.{Columns, empty, set_of, ◌△◌}
-use Rattle.gf2_span.specs.Words.{is_set, bits_of, IsPadded, IsLastBelow}
-use Rattle.gf2_span.specs.Rows.{IsFirst, IsLast}
+use Rattle.gf2_span.specs.Words.{is_set, bits_of, IsPadded, IsRow, IsLastBelow}
+use Rattle.gf2_span.specs.Rows.{IsFirst, IsFirstFrom, IsLast}
 use Rattle.gf2_span.proofs.Kernels.{none_set}
 
 pub length-bits : (columns : ℕ) (words : List ℕ) → length (bits_of columns words) ≡ columns
@@ -26,10 +26,9 @@ pub as_long : (a b : ℕ) (words others : List ℕ) → length (bits_of a words)
 as_long a b words others same = sym (length-bits a words) ∙ same ∙ length-bits b others
 
 -- what is known of the words of one row, at the columns of another one with as many bits
-pub other_padded : (a b : ℕ) (words others : List ℕ) → length (bits_of a words) ≡ length (bits_of b others)
-    → IsPadded b others → IsPadded a others
-other_padded a b words others same padded = let P : ℕ
-    → Type 0 = λ n. IsPadded n others in subst P (sym (as_long a b words others same)) padded
+pub other_row : (a b : ℕ) (words others : List ℕ) (end : ℕ) → length (bits_of a words) ≡ length (bits_of b others)
+    → IsRow b others end → IsRow a others end
+other_row a b words others end same row = let P : ℕ → Type 0 = λ n. IsRow n others end in subst P (sym (as_long a b words others same)) row
 
 pub bit-bits : (columns : ℕ) (words : List ℕ) → IsPadded columns words → (c : ℕ) → get_or (bits_of columns words) c false ≡ is_set words c
 unfolding bits_of
@@ -81,6 +80,16 @@ sum_padded columns a b padded_a padded_b =
       small = padded_a.small;
       long = length-zip2 bit_xor a b same ∙ padded_a.long;
       clear = λ c h. xor_set a b c same ∙ ap (λ x. not (beq x (is_set b c))) (padded_a.clear c h) ∙ ap (λ x. not (beq false x)) (padded_b.clear c h);
+    }
+
+pub row_sum : (columns : ℕ) (a b : List ℕ) (end_a end_b end : ℕ) → IsRow columns a end_a → IsRow columns b end_b
+    → end_a ≤ end → end_b ≤ end → end ≤ length a → IsRow columns (zip2 bit_xor a b) end
+row_sum columns a b end_a end_b end row_a row_b past_a past_b fits =
+    let same : length a ≡ length b = row_a.padded.long ∙ sym row_b.padded.long in
+    record {
+      padded = sum_padded columns a b row_a.padded row_b.padded;
+      within = omega (arith, length-zip2 bit_xor a b same);
+      rest = λ c h. xor_set a b c same ∙ ap (λ x. not (beq x (is_set b c))) (row_a.rest c (omega arith)) ∙ ap (λ x. not (beq false x)) (row_b.rest c (omega arith));
     }
 
 pub set_of-sum : (columns : ℕ) (a b : List ℕ) → IsPadded columns a → IsPadded columns b
@@ -147,6 +156,18 @@ flip_padded columns words c padded h =
       clear = λ d past. set_kept words c d in_words (λ e. absurd (omega arith)) ∙ padded.clear d past;
     }
 
+pub row_flipped : (columns : ℕ) (words : List ℕ) (end c new_end : ℕ) → IsRow columns words end → c < columns
+    → end ≤ new_end → c / 64 + 1 ≤ new_end → new_end ≤ length words
+    → IsRow columns (set words (c / 64) (bit_xor (get_or words (c / 64) 0) (1 * 2 ^ (c % 64) % 2 ^ 64))) new_end
+unfolding flipped
+row_flipped columns words end c new_end row h past past_c fits =
+    let in_words : c / 64 < length words = omega (arith, row.padded.long) in
+    record {
+      padded = flip_padded columns words c row.padded h;
+      within = omega (arith, length-set words (c / 64) (bit_xor (get_or words (c / 64) 0) (1 * 2 ^ (c % 64) % 2 ^ 64)));
+      rest = λ d past_d. set_kept words c d in_words (λ e. absurd (omega arith)) ∙ row.rest d (omega arith);
+    }
+
 pub bits-flip : (columns : ℕ) (words : List ℕ) (c : ℕ) → IsPadded columns words → c < columns
     → bits_of columns (set words (c / 64) (bit_xor (get_or words (c / 64) 0) (1 * 2 ^ (c % 64) % 2 ^ 64)))
     ≡ set (bits_of columns words) c (not (get_or (bits_of columns words) c false))
@@ -171,6 +192,9 @@ zeros_unset n c = none_set (replicate n 0) n (omega (arith, length-replicate {A 
 pub zeros_padded : (columns : ℕ) → columns < 2 ^ 32 → IsPadded columns (replicate ((columns + 63) / 64) 0)
 zeros_padded columns small = record { small = small; long = length-replicate {A = ℕ} ((columns + 63) / 64) 0; clear = λ c _. zeros_unset ((columns + 63) / 64) c }
 
+pub row_of_zeros : (columns : ℕ) → columns < 2 ^ 32 → IsRow columns (replicate ((columns + 63) / 64) 0) 0
+row_of_zeros columns small = record { padded = zeros_padded columns small; within = omega arith; rest = λ c _. zeros_unset ((columns + 63) / 64) c }
+
 pub bits-zeros : (columns n : ℕ) → bits_of columns (replicate n 0) ≡ replicate columns false
 bits-zeros columns n =
     bits_from columns (replicate n 0) (replicate columns false) (length-replicate columns false) (λ c h. zeros_unset n c ∙ sym (get_or-replicate columns c false false h))
@@ -184,10 +208,21 @@ pub past_unset : (words : List ℕ) (c : ℕ) → length words ≤ c / 64 → is
 unfolding is_set
 past_unset words c past = ap (λ w. eqb (bit_at w (c % 64)) 1) (get_or_past words (c / 64) 0 past) ∙ ap (λ b. eqb b 1) (bit_at-zero (c % 64))
 
--- nothing is set past the word of a column where nothing is set past the column
-pub clear_above : (columns : ℕ) (words : List ℕ) (lead : ℕ) → IsPadded columns words
-    → ((c : ℕ) → lead < c → set_of (bits_of columns words) c ≡ false) → (c : ℕ) → 64 * (lead / 64 + 1) ≤ c → is_set words c ≡ false
-clear_above columns words lead padded none c h = sym (bit-bits columns words padded c) ∙ none c (omega arith)
+-- words are zero from any number on that is past the end
+pub rest_past : (columns : ℕ) (words : List ℕ) (end past : ℕ) → IsRow columns words end → end ≤ past → (c : ℕ) → 64 * past ≤ c → is_set words c ≡ false
+rest_past columns words end past row less c h = row.rest c (omega arith)
+
+-- a row of which fewer words are in use, where it has no column past one
+pub row_cut : (columns : ℕ) (words : List ℕ) (end new_end lead : ℕ) → IsRow columns words end → ((c : ℕ) → lead < c → set_of (bits_of columns words) c ≡ false)
+    → new_end ≤ end → ((m : ℕ) → new_end ≤ m → m < end → lead / 64 + 1 ≤ m) → IsRow columns words new_end
+row_cut columns words end new_end lead row none less gap = record {
+  padded = row.padded;
+  within = omega (arith, row.within);
+  rest = λ c h. elim (cases_lt c (64 * end)) [
+    | inl here ↦ (let low : lead / 64 + 1 ≤ c / 64 = gap (c / 64) (omega arith) (omega arith) in sym (bit-bits columns words row.padded c) ∙ none c (omega arith))
+    | inr past ↦ row.rest c past
+  ];
+}
 
 -- the last bit of the words below the end is the greatest column of the row below it
 pub last_column : (columns : ℕ) (words : List ℕ) (end b : ℕ) → IsPadded columns words → IsLastBelow (is_set words) end b → IsLastBelow (set_of (bits_of columns words)) end b
@@ -219,6 +254,19 @@ first_column columns words b padded first =
     let inside : b < columns = elim (cases_lt b columns) [ inl lt ↦ lt | inr ge ↦ absurd (false≢true (sym (padded.clear b ge) ∙ first.there)) ] in
     let P : Columns ℕ → Type 0 = λ row. IsFirst row b in
     (omega (arith, length-bits columns words), subst P (sym (set_of-bits columns words padded)) first)
+
+-- the first bit of the words from a place on is the first column of the row from there on
+pub first_column_from : (columns : ℕ) (words : List ℕ) (start b : ℕ) → IsPadded columns words → IsFirstFrom (is_set words) start b
+    → (b < length (bits_of columns words)) × IsFirstFrom (set_of (bits_of columns words)) start b
+first_column_from columns words start b padded first =
+    let inside : b < columns = elim (cases_lt b columns) [ inl lt ↦ lt | inr ge ↦ absurd (false≢true (sym (padded.clear b ge) ∙ first.there)) ] in
+    let P : Columns ℕ → Type 0 = λ row. IsFirstFrom row start b in
+    (omega (arith, length-bits columns words), subst P (sym (set_of-bits columns words padded)) first)
+
+-- words with no bit from a place on have no column there
+pub no_column_from : (columns : ℕ) (words : List ℕ) (start : ℕ) → IsPadded columns words → ((c : ℕ) → start ≤ c → is_set words c ≡ false)
+    → (c : ℕ) → start ≤ c → set_of (bits_of columns words) c ≡ false
+no_column_from columns words start padded none c h = bit-bits columns words padded c ∙ none c h
 
 -- a row of words with no bit is the empty set
 pub no_column : (columns : ℕ) (words : List ℕ) → IsPadded columns words → ((c : ℕ) → is_set words c ≡ false) → set_of (bits_of columns words) ≡ empty

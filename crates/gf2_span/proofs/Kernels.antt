@@ -1,14 +1,15 @@
 -- The loops over words.
-use Rattle.std.proofs.Common.{◌∷◌, [], zero, bit_or, ◌≡◌, ℕ, suc, pow-suc, min, bit_and, true, Option, Some, None, MatchOption, ◌+◌, ◌-◌, ◌*◌, ◌/◌, ◌%◌, ◌^◌, ◌<◌, ◌≤◌, false, List, length, get_or, bit_xor, eqb, Fits, refl, sym, ap, ◌∙◌, subst, inl, inr, arith}
+use Rattle.std.proofs.Common.{◌∷◌, [], zero, bit_or, ◌≡◌, ℕ, suc, pow-suc, min, bit_and, true, Option, Some, None, MatchOption, ◌+◌, ◌-◌, ◌*◌, ◌/◌, ◌%◌, ◌^◌, ◌<◌, ◌≤◌, false, List, length, get_or, set, bit_xor, eqb, Fits, refl, sym, ap, ◌∙◌, subst, inl, inr, arith}
 use Rattle.std.specs.Simd.Lanes.{zip2, chunk, put_chunk, fold_l}
 use Rattle.std.specs.Int.{bit_at, trailing_zeros, w64}
 use Rattle.std.proofs.lemmas.Simd.{length-chunk, length-zip2, length-put_chunk, get_or-zip2, get_or-chunk, get_or-put_chunk_at, get_or-put_chunk_below, get_or-put_chunk_above}
-use Rattle.std.proofs.lemmas.Bool.{cases_lt, eqb-false}
-use Rattle.std.proofs.lemmas.List.{same_lists, get_or_default, get_or_past}
-use Rattle.std.proofs.lemmas.Nat.{xor_comm, le_or_l, le_or_r}
+use Rattle.std.proofs.lemmas.Bool.{cases_lt, cases_eq, eqb-false}
+use Rattle.std.proofs.lemmas.List.{same_lists, get_or_default, get_or_past, length-set, get_or-set_same, get_or-set_other}
+use Rattle.std.proofs.lemmas.Nat.{xor_comm, le_or_l, le_or_r, pow-add}
+use Rattle.std.proofs.Math.Nat.{div-div-eq-div-mul, div-le_self}
 use Rattle.std.proofs.lemmas.Nat.Bits.{bit_at-zero, bit_at-trailing_zeros, bit_at-lt, same_from_bits_below, bit_at_and, bit_at_ones, bit_at_ones_above, bit_at_above, bit_at_cat_high}
 use Rattle.gf2_span.specs.Words.{is_set, IsLastBelow}
-use Rattle.gf2_span.specs.Rows.{IsFirst}
+use Rattle.gf2_span.specs.Rows.{IsFirst, IsFirstFrom}
 
 -- the words before `at` are those of the sum, and the others are as they were
 pub record IsAddedBelow (old other new : List ℕ) (at : ℕ) : Type 0 where
@@ -50,6 +51,40 @@ lanes_added old other now at same room added =
             subst P e (lane_added old other now at (k - at) same room added (omega arith))
       ];
       above = λ k h. get_or-put_chunk_above at now sum k 0 (omega arith) ∙ added.above k (omega arith);
+    }
+
+-- the words before `at` are those of the other row, and those from it on are as they were
+pub record IsCopiedBelow (old other new : List ℕ) (at : ℕ) : Type 0 where
+  pub within : at ≤ length other
+  pub long : length new ≡ length old
+  pub below : (k : ℕ) → k < at → get_or new k 0 ≡ get_or other k 0
+  pub above : (k : ℕ) → at ≤ k → get_or new k 0 ≡ get_or old k 0
+
+pub none_copied : (old other : List ℕ) → IsCopiedBelow old other old 0
+none_copied old other = record {
+  within = omega arith;
+  long = refl;
+  below = λ k h. absurd (omega arith);
+  above = λ k h. refl;
+}
+
+-- a block of eight more words
+pub lanes_copied : (old other now : List ℕ) (at : ℕ) → length old ≡ length other → at + 8 ≤ length other → IsCopiedBelow old other now at
+    → IsCopiedBelow old other (put_chunk at now (chunk at 8 other)) (at + 8)
+lanes_copied old other now at same room copied =
+    let now_room : at + 8 ≤ length now = omega (arith, copied.long) in
+    let other_8 : length (chunk at 8 other) ≡ 8 = length-chunk at 8 other room in
+    record {
+      within = room;
+      long = length-put_chunk at now (chunk at 8 other) ∙ copied.long;
+      below = λ k h. elim (cases_lt k at) [
+        | inl lt ↦ get_or-put_chunk_below at now (chunk at 8 other) k 0 lt ∙ copied.below k lt
+        | inr ge ↦
+            let P : ℕ → Type 0 = λ i. get_or (put_chunk at now (chunk at 8 other)) i 0 ≡ get_or other i 0 in
+            let e : at + (k - at) ≡ k = omega arith in
+            subst P e (get_or-put_chunk_at at now (chunk at 8 other) (k - at) 0 (omega arith) (omega arith) ∙ get_or-chunk at 8 other (k - at) 0 (omega arith))
+      ];
+      above = λ k h. get_or-put_chunk_above at now (chunk at 8 other) k 0 (omega arith) ∙ copied.above k (omega arith);
     }
 
 -- zero words have no column
@@ -120,6 +155,53 @@ all_added old other new end same fits clear added =
       | inr ge ↦ added.above k ge ∙ xor_zero (get_or old k 0) (get_or other k 0) (zero_word other k (fits k).fits (λ c e. clear c (omega arith)))
     ] in
     get_or_default new k d 0 h ∙ is ∙ sym (get_or-zip2 bit_xor old other k 0 0 d in_old (omega arith)))
+
+-- one more word
+pub word_copied : (old other now : List ℕ) (at word : ℕ) → length old ≡ length other → at < length other → word ≡ get_or other at 0 → IsCopiedBelow old other now at
+    → IsCopiedBelow old other (set now at word) (at + 1)
+word_copied old other now at word same room e copied =
+    let now_room : at < length now = omega (arith, copied.long) in
+    record {
+      within = omega arith;
+      long = length-set now at word ∙ copied.long;
+      below = λ k h. elim (cases_eq k at) [
+        | inl here ↦
+            let P : ℕ → Type 0 = λ i. get_or (set now at word) i 0 ≡ get_or other i 0 in
+            subst P (sym here) (get_or-set_same now at word 0 now_room ∙ e)
+        | inr other_place ↦ get_or-set_other now at k word 0 other_place ∙ copied.below k (omega arith)
+      ];
+      above = λ k h. get_or-set_other now at k word 0 (λ here. absurd (omega arith)) ∙ copied.above k (omega arith);
+    }
+
+-- all words of the other row that have a column, and as far as the old row has words that are not zero
+pub all_copied : (old other new : List ℕ) (at end old_end : ℕ) → length old ≡ length other → ((k : ℕ) → old_end ≤ k → get_or old k 0 ≡ 0) → ((k : ℕ) → Fits w64 (get_or other k 0))
+    → ((c : ℕ) → 64 * end ≤ c → is_set other c ≡ false)
+    → end ≤ at → old_end ≤ at → IsCopiedBelow old other new at → new ≡ other
+all_copied old other new at end old_end same old_zero fits clear past past_old copied =
+    same_lists new other (copied.long ∙ same) (λ k d h.
+    let in_other : k < length other = omega (arith, copied.long) in
+    let is : get_or new k 0 ≡ get_or other k 0 = elim (cases_lt k at) [
+      | inl lt ↦ copied.below k lt
+      | inr ge ↦
+          copied.above k ge ∙ old_zero k (omega arith)
+          ∙ sym (zero_word other k (fits k).fits (λ c e. clear c (omega arith)))
+    ] in
+    get_or_default new k d 0 h ∙ is ∙ sym (get_or_default other k d 0 in_other))
+
+-- words that are the same as far as either has a column
+pub all_same : (words other : List ℕ) (end : ℕ) → length words ≡ length other → ((k : ℕ) → Fits w64 (get_or words k 0)) → ((k : ℕ) → Fits w64 (get_or other k 0))
+    → ((c : ℕ) → 64 * end ≤ c → is_set words c ≡ false) → ((c : ℕ) → 64 * end ≤ c → is_set other c ≡ false)
+    → ((k : ℕ) → k < end → get_or words k 0 ≡ get_or other k 0) → words ≡ other
+all_same words other end same fits other_fits clear other_clear below =
+    same_lists words other same (λ k d h.
+    let in_other : k < length other = omega arith in
+    let is : get_or words k 0 ≡ get_or other k 0 = elim (cases_lt k end) [
+      | inl lt ↦ below k lt
+      | inr ge ↦
+          zero_word words k (fits k).fits (λ c e. clear c (omega arith))
+          ∙ sym (zero_word other k (other_fits k).fits (λ c e. other_clear c (omega arith)))
+    ] in
+    get_or_default words k d 0 h ∙ is ∙ sym (get_or_default other k d 0 in_other))
 
 -- ---- the highest one
 
@@ -217,6 +299,87 @@ last_wider words place end (Some b) fits none found = record {
   there = found.there;
   none_after = λ c after before. elim (cases_lt c place) [ inl lt ↦ found.none_after c after lt | inr ge ↦ none c ge before ];
 }
+
+-- ---- the lowest one from a place on
+
+-- the bits of a word from a place on
+shifted : (word rest i : ℕ) → bit_at (word / 2 ^ rest) i ≡ bit_at word (rest + i)
+shifted word rest i = ap (λ n. n % 2) (div-div-eq-div-mul word (2 ^ rest) (2 ^ i) ∙ ap (λ p. word / p) (sym (pow-add 2 rest i)))
+
+-- no column is set in the words past the last
+pub none_past_words : (words : List ℕ) (start : ℕ) → length words ≤ start / 64 → (c : ℕ) → start ≤ c → is_set words c ≡ false
+none_past_words words start past c h = zero_unset words c (get_or_past words (c / 64) 0 (omega arith))
+
+-- zero words from one on have no column
+pub none_set_from : (words : List ℕ) (from at : ℕ) → length words ≤ at → ((k : ℕ) → from ≤ k → k < at → get_or words k 0 ≡ 0)
+    → (c : ℕ) → 64 * from ≤ c → is_set words c ≡ false
+none_set_from words from at past zeros c h = elim (cases_lt (c / 64) at) [
+  | inl lt ↦ zero_unset words c (zeros (c / 64) (omega arith) lt)
+  | inr ge ↦ zero_unset words c (get_or_past words (c / 64) 0 (omega arith))
+]
+
+-- the lowest one of the first word that is not zero, from one on
+pub first_found_from : (words : List ℕ) (from at : ℕ) → from ≤ at → ((k : ℕ) → from ≤ k → k < at → get_or words k 0 ≡ 0)
+    → 0 < get_or words at 0 → get_or words at 0 < 2 ^ 64
+    → IsFirstFrom (is_set words) (64 * from) (64 * at + trailing_zeros w64 (get_or words at 0))
+first_found_from words from at past zeros some fits =
+    let found = bit_at-trailing_zeros w64 (get_or words at 0) some fits in
+    let low : ℕ = trailing_zeros w64 (get_or words at 0) in
+    let below : low < 64 = found.0 in
+    record {
+      from = omega arith;
+      there = set_there words at low below found.1;
+      none_before = λ c h before. elim (cases_lt (c / 64) at) [
+        | inl lt ↦ zero_unset words c (zeros (c / 64) (omega arith) lt)
+        | inr ge ↦ set_not words at c (omega arith) (found.2 (c % 64) (omega arith))
+      ];
+    }
+
+-- the lowest one of the part of a word from the start on
+pub first_of_part : (words : List ℕ) (start : ℕ) → 0 < get_or words (start / 64) 0 / 2 ^ (start % 64) → get_or words (start / 64) 0 < 2 ^ 64
+    → IsFirstFrom (is_set words) start (start + trailing_zeros w64 (get_or words (start / 64) 0 / 2 ^ (start % 64)))
+first_of_part words start some fits =
+    let at : ℕ = start / 64 in
+    let rest : ℕ = start % 64 in
+    let word : ℕ = get_or words (start / 64) 0 in
+    let found = bit_at-trailing_zeros w64 (word / 2 ^ rest) some (omega (arith, fits, div-le_self word (2 ^ rest))) in
+    let low : ℕ = trailing_zeros w64 (word / 2 ^ rest) in
+    let one : bit_at word (rest + low) ≡ 1 = sym (shifted word rest low) ∙ found.1 in
+    let within : rest + low < 64 = elim (cases_lt (rest + low) 64) [
+      | inl lt ↦ lt
+      | inr ge ↦ (let zero_bit : bit_at word (rest + low) ≡ 0 = bit_at_above word 64 (rest + low) fits ge in absurd (omega arith))
+    ] in
+    let is : 64 * at + (rest + low) ≡ start + low = omega arith in
+    record {
+      from = omega arith;
+      there = ap (λ c. is_set words c) (sym is) ∙ set_there words at (rest + low) within one;
+      none_before = λ c h before.
+          let gap : c - start < low = omega arith in
+          let bit_in : rest + (c - start) ≡ c % 64 = omega arith in
+          set_not words at c (omega arith) (ap (λ i. bit_at word i) (sym bit_in) ∙ sym (shifted word rest (c - start)) ∙ found.2 (c - start) gap);
+    }
+
+-- the first one from a place on is the first one from the start on, where the part of the start's word is zero
+pub first_narrower : (words : List ℕ) (start : ℕ) (o : Option ℕ) → get_or words (start / 64) 0 / 2 ^ (start % 64) ≡ 0
+    → MatchOption o ((c : ℕ) → 64 * (start / 64 + 1) ≤ c → is_set words c ≡ false) (λ b. IsFirstFrom (is_set words) (64 * (start / 64 + 1)) b)
+    → MatchOption o ((c : ℕ) → start ≤ c → is_set words c ≡ false) (λ b. IsFirstFrom (is_set words) start b)
+first_narrower words start o zero_part found = wider o found
+  where
+    here : (c : ℕ) → start ≤ c → c < 64 * (start / 64 + 1) → is_set words c ≡ false
+    here c low high =
+        let bit_in : start % 64 + (c - start) ≡ c % 64 = omega arith in
+        set_not words (start / 64) c (omega arith)
+        (ap (λ i. bit_at (get_or words (start / 64) 0) i) (sym bit_in) ∙ sym (shifted (get_or words (start / 64) 0) (start % 64) (c - start))
+        ∙ ap (λ w. bit_at w (c - start)) zero_part ∙ bit_at-zero (c - start))
+
+    wider : (p : Option ℕ) → MatchOption p ((c : ℕ) → 64 * (start / 64 + 1) ≤ c → is_set words c ≡ false) (λ b. IsFirstFrom (is_set words) (64 * (start / 64 + 1)) b)
+        → MatchOption p ((c : ℕ) → start ≤ c → is_set words c ≡ false) (λ b. IsFirstFrom (is_set words) start b)
+    wider None none = λ c h. elim (cases_lt c (64 * (start / 64 + 1))) [ inl lt ↦ here c h lt | inr ge ↦ none c ge ]
+    wider (Some b) first = record {
+      from = omega (arith, first.from);
+      there = first.there;
+      none_before = λ c h before. elim (cases_lt c (64 * (start / 64 + 1))) [ inl lt ↦ here c h lt | inr ge ↦ first.none_before c ge before ];
+    }
 
 -- where the `or` of words is zero, so is what it began with
 start_zero : (words : List ℕ) (start : ℕ) → fold_l bit_or start words ≡ 0 → start ≡ 0

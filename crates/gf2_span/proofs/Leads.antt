@@ -127,6 +127,15 @@ no_lead_empty rows v own (picks, e) clear = elim (chosen rows own picks) [
   | inr found ↦ absurd (false≢true (sym (clear found.0 found.1 found.2 found.3) ∙ (last_as (difference picks rows) v found.1 e found.4).there))
 ]
 
+-- a member that has the greatest column of none of the rows as its own is empty
+pub no_last_empty : (rows : List (Columns ℕ)) (v : Columns ℕ) → HaveOwnLeads rows → InSpan rows v
+    → ((k c : ℕ) → k < length rows → IsLast (get_or rows k empty) c → ¬ IsLast v c) → v ≡ empty
+unfolding Chosen
+no_last_empty rows v own (picks, e) none = elim (chosen rows own picks) [
+  | inl unpicks ↦ sym e ∙ unpicks.0
+  | inr found ↦ absurd (none found.0 found.1 found.2 found.3 (last_as (difference picks rows) v found.1 e found.4))
+]
+
 pub no_lead_sum : (rows : List (Columns ℕ)) (v w : Columns ℕ) → HoldsNoLead rows v → HoldsNoLead rows w → HoldsNoLead rows (v △ w)
 no_lead_sum rows v w of_v of_w k c h at = ap (λ x. not (beq x (w c))) (of_v k c h at) ∙ ap (λ x. not (beq false x)) (of_w k c h at)
 

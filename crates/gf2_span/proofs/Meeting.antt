@@ -407,6 +407,14 @@ meet_if_none (Ok span) columns [] sum none is =
 meet_if_none (Ok span) columns (row ∷ rows) sum none is = absurd (omega arith)
 meet_if_none (Err e) columns a sum none is = tt
 
+pub meet_if_apart : {E : Type 0} (made : Result Basis E) (columns : ℕ) (a b : List (Columns ℕ)) → ((v : Columns ℕ) → InSpan a v → InSpan b v → v ≡ empty)
+    → IfOk made (λ (span : Basis). span ≡ record { columns = columns; rows = [] }) → IfOk made (λ (meet : Basis). IsMeet (row_sets meet) a b)
+meet_if_apart (Ok span) columns a b apart is =
+    let P : Basis → Type 0 = λ (x : Basis). IsMeet (row_sets x) a b in
+    let none : IsMeet [] a b = λ v. (λ m. (spans_none a v m, spans_none b v m), λ m. in_as [] (sym (apart v m.0 m.1)) (empty_in [])) in
+    subst P (sym is) none
+meet_if_apart (Err e) columns a b apart is = tt
+
 pub meet_if_as : {E : Type 0} (made : Result Basis E) (a sum other : List (Columns ℕ)) → SameSpan sum other
     → IfOk made (λ (meet : Basis). IsMeet (row_sets meet) a sum) → IfOk made (λ (meet : Basis). IsMeet (row_sets meet) a other)
 meet_if_as (Ok span) a sum other same met = meet_as (row_sets span) a sum other same met

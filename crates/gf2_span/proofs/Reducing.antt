@@ -11,10 +11,10 @@ use Rattle.span_model.specs.Span.{InSpan}
 use Rattle.span_model.proofs.Sets.{△_assoc}
 use Rattle.span_model.proofs.Members.{in_as, in_sum}
 use Rattle.gf2_span.specs.declared.span.Lead.{Lead}
-use Rattle.gf2_span.specs.Rows.{IsLast, HaveOwnLeads, HoldsNoLead}
+use Rattle.gf2_span.specs.Rows.{IsLast, HaveOwnLeads, HoldsNoLead, LeadsNoMember}
 use Rattle.gf2_span.specs.Words.{IsLastBelow}
 use Rattle.gf2_span.specs.Echelon.{lead_at, AreAscending, IsSplitAt, IsEchelon, LeadsNone}
-use Rattle.gf2_span.proofs.Leads.{last_unique, last_as, row_in}
+use Rattle.gf2_span.proofs.Leads.{last_unique, last_as, row_in, no_last_empty}
 
 -- ---- the list of the leads
 
@@ -111,6 +111,21 @@ echelon_own columns rows leads echelon = record { some = some; apart = apart }
 pub leads_none : (columns : ℕ) (rows : List (List Bool)) (leads : List Lead) (c : ℕ) → IsEchelon columns rows leads
     → ((k : ℕ) → k < length leads → (lead_at leads k).column ≡ c → ⊥) → LeadsNone (sets_of rows) c
 leads_none columns rows leads c echelon none i h last = let x = listed_lead columns rows leads echelon i c h last in none x.0 x.1 x.2
+
+-- a lead's column is the greatest one of a member
+pub led_member : (columns : ℕ) (rows : List (List Bool)) (leads : List Lead) (k c : ℕ) → IsEchelon columns rows leads → k < length leads → (lead_at leads k).column ≡ c
+    → (v : Columns ℕ) × InSpan (sets_of rows) v × IsLast v c
+led_member columns rows leads k c echelon h e =
+    let P : ℕ → Type 0 = λ i. IsLast (set_of (get_or rows (lead_at leads k).row [])) i in
+    (set_of (get_or rows (lead_at leads k).row []), row_in rows (lead_at leads k).row (echelon.within k h), subst P e (echelon.led k h))
+
+-- where no lead's column is the greatest one of a member of the others, both have the empty set alone in common
+pub apart_empty : (columns : ℕ) (rows : List (List Bool)) (leads : List Lead) (others : List (Columns ℕ)) → IsEchelon columns rows leads
+    → ((k : ℕ) → k < length leads → LeadsNoMember others (lead_at leads k).column) → (v : Columns ℕ) → InSpan (sets_of rows) v → InSpan others v → v ≡ empty
+apart_empty columns rows leads others echelon free v m n = no_last_empty (sets_of rows) v (echelon_own columns rows leads echelon) m (λ i c h at last.
+    let x = listed_lead columns rows leads echelon i c h at in
+    let P : ℕ → Type 0 = λ d. LeadsNoMember others d in
+    subst P x.2 (free x.0 x.1) v n last)
 
 -- a set without the columns of the leads has none of the greatest columns of the rows
 pub holds_none : (columns : ℕ) (rows : List (List Bool)) (leads : List Lead) (v : Columns ℕ) → IsEchelon columns rows leads

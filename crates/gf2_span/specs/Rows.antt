@@ -1,5 +1,5 @@
 -- What a row says of its columns, and rows of their greatest columns.
-use Rattle.std.specs.Prelude.{◌≡◌, ◌≢◌, ◌<◌, ℕ, true, false, List, length, slice_index_or}
+use Rattle.std.specs.Prelude.{◌≡◌, ◌≢◌, ◌<◌, ◌≤◌, ℕ, true, false, List, length, slice_index_or}
 use Rattle.span_model.specs.Columns.{Columns, empty}
 use Rattle.span_model.specs.Span.{InSpan}
 
@@ -7,6 +7,12 @@ use Rattle.span_model.specs.Span.{InSpan}
 pub record IsFirst (row : Columns ℕ) (column : ℕ) : Type 0 where
   pub there : row column ≡ true
   pub none_before : (before : ℕ) → before < column → row before ≡ false
+
+-- the column is the least one in the set from this one on
+pub record IsFirstFrom (row : Columns ℕ) (start column : ℕ) : Type 0 where
+  pub from : start ≤ column
+  pub there : row column ≡ true
+  pub none_before : (before : ℕ) → start ≤ before → before < column → row before ≡ false
 
 -- the column is the greatest one in the set
 pub record IsLast (row : Columns ℕ) (column : ℕ) : Type 0 where

@@ -1,5 +1,5 @@
 -- Rows as 64-bit words, the lowest bit of the first word being column 0.
-use Rattle.std.specs.Prelude.{◌≡◌, ℕ, Bool, true, false, List, map, length, ◌+◌, ◌/◌, ◌%◌, ◌≤◌, ◌<◌, ◌^◌, eqb, slice_index}
+use Rattle.std.specs.Prelude.{◌≡◌, ℕ, Bool, true, false, List, map, length, ◌+◌, ◌*◌, ◌/◌, ◌%◌, ◌≤◌, ◌<◌, ◌^◌, eqb, slice_index}
 use Rattle.std.specs.Int.{bit_at}
 use Rattle.std.specs.List.{range_with_len}
 use Rattle.span_model.specs.Columns.{Columns}
@@ -17,6 +17,12 @@ pub record IsPadded (columns : ℕ) (words : List ℕ) : Type 0 where
   pub small : columns < 2 ^ 32
   pub long : length words ≡ (columns + 63) / 64
   pub clear : (column : ℕ) → columns ≤ column → is_set words column ≡ false
+
+-- how a row is kept: its words, of which those from number `end` on are zero
+pub record IsRow (columns : ℕ) (words : List ℕ) (end : ℕ) : Type 0 where
+  pub padded : IsPadded columns words
+  pub within : end ≤ length words
+  pub rest : (column : ℕ) → 64 * end ≤ column → is_set words column ≡ false
 
 -- of the columns below the end, the column is the greatest one in the set
 pub record IsLastBelow (row : Columns ℕ) (end column : ℕ) : Type 0 where

@@ -1,9 +1,12 @@
 ghost use Rattle.std.specs.Prelude.{◌≡◌, ◌≢◌, ℕ, ◌<◌, ◌≤◌, ◌↔◌, length, not, true, false, slice_index_or, slice_set, replicate, IsTrue, IfOk, MatchOption};
+ghost use Rattle.std.specs.Bool.{OnTrue};
 ghost use Rattle.span_model.specs.Columns.{set_of, empty, ◌△◌};
-ghost use Rattle.gf2_span.specs.Rows.{IsFirst, IsLast};
+ghost use Rattle.gf2_span.specs.Rows.{IsFirst, IsFirstFrom, IsLast};
 ghost use Rattle.gf2_span.specs.Words.{IsLastBelow};
 
-use crate::words::{add_words, first_bit, last_bit};
+use crate::words::{
+    add_words, are_same, first_bit, first_bit_from, greater, last_bit, lesser, overwrite_words,
+};
 use std::alloc::{AllocError, Global};
 use std::marker::Model;
 
@@ -12,17 +15,19 @@ use std::marker::Model;
 pub struct BitRow {
     words: Vec<u64>,
     columns: u32,
+    // the words from this number on are zero
+    end: usize,
 }
 
 impl Model for BitRow {
     ghost use Rattle.std.specs.Prelude.{List, Bool};
-    ghost use Rattle.gf2_span.specs.Words.{bits_of, IsPadded};
+    ghost use Rattle.gf2_span.specs.Words.{bits_of, IsRow};
 
     ghost Value = { List Bool };
 
     ghost view = { λ row. bits_of row.columns row.words.items };
 
-    ghost invariant = { λ row. IsPadded row.columns row.words.items };
+    ghost invariant = { λ row. IsRow row.columns row.words.items row.end };
 }
 
 impl BitRow {
@@ -31,7 +36,11 @@ impl BitRow {
         ensures { IfOk result (λ row. row ≡ replicate columns false) }
     {
         let words = vec![in alloc; 0u64; (columns as usize + 63) / 64]?;
-        Ok(BitRow { words, columns })
+        Ok(BitRow {
+            words,
+            columns,
+            end: 0,
+        })
     }
 
     pub fn copy(&self, alloc: Global) -> Result<BitRow, AllocError>
@@ -41,6 +50,7 @@ impl BitRow {
         Ok(BitRow {
             words,
             columns: self.columns,
+            end: self.end,
         })
     }
 
@@ -65,7 +75,9 @@ impl BitRow {
         requires { c < length self.old }
         ensures { self.new ≡ slice_set self.old c (not (slice_index_or self.old c false)) }
     {
-        self.words[c as usize / 64] ^= 1 << (c % 64);
+        let place = c as usize / 64;
+        self.words[place] ^= 1 << (c % 64);
+        self.end = greater(self.end, place + 1);
     }
 
     /// The symmetric difference with another row.
@@ -74,7 +86,18 @@ impl BitRow {
         ensures columns { length self.new ≡ length self.old }
         ensures sum { set_of self.new ≡ set_of self.old △ set_of other.now }
     {
-        add_words(&mut self.words, &other.words, other.words.len());
+        add_words(&mut self.words, &other.words, other.end);
+        self.end = greater(self.end, other.end);
+    }
+
+    /// Whether the row is found to be the same as another, over as many columns.
+    pub fn equals(&self, other: &BitRow) -> bool
+        ensures { OnTrue result (self.now ≡ other.now) }
+    {
+        if self.columns != other.columns || self.words.len() != other.words.len() {
+            return false;
+        }
+        are_same(&self.words, &other.words, greater(self.end, other.end))
     }
 
     pub fn is_zero(&self) -> bool
@@ -87,7 +110,17 @@ impl BitRow {
     pub fn first(&self) -> Option<u32>
         ensures { MatchOption result (set_of self.now ≡ empty) (λ c. (c < length self.now) × IsFirst (set_of self.now) c) }
     {
-        match first_bit(&self.words) {
+        match first_bit(&self.words, self.end) {
+            Some(c) => Some(c as u32),
+            None => None,
+        }
+    }
+
+    /// The least column from `start` on.
+    pub fn first_from(&self, start: u32) -> Option<u32>
+        ensures { MatchOption result ((c : ℕ) → start ≤ c → set_of self.now c ≡ false) (λ c. (c < length self.now) × IsFirstFrom (set_of self.now) start c) }
+    {
+        match first_bit_from(&self.words, start as usize) {
             Some(c) => Some(c as u32),
             None => None,
         }
@@ -100,26 +133,23 @@ impl BitRow {
         self.last_before(self.columns)
     }
 
-    // `add` where the other row is known to have no column past `lead`.
-    pub(crate) fn add_to(&mut self, other: &BitRow, lead: u32)
-        requires same { length self.old ≡ length other.now }
-        requires within { lead < length self.old }
-        requires clear { (c : ℕ) → lead < c → set_of other.now c ≡ false }
-        ensures columns { length self.new ≡ length self.old }
-        ensures sum { set_of self.new ≡ set_of self.old △ set_of other.now }
-    {
-        add_words(&mut self.words, &other.words, lead as usize / 64 + 1);
-    }
-
     // The greatest column below `end`.
     pub(crate) fn last_before(&self, end: u32) -> Option<u32>
         requires { end ≤ length self.now }
         ensures { MatchOption result ((c : ℕ) → c < end → set_of self.now c ≡ false) (λ c. IsLastBelow (set_of self.now) end c) }
     {
-        match last_bit(&self.words, end as usize) {
+        match last_bit(&self.words, lesser(end as usize, 64 * self.end)) {
             Some(c) => Some(c as u32),
             None => None,
         }
+    }
+
+    // Notes that the row has no column past `lead`, so that fewer of its words are looked at.
+    pub(crate) fn cut_past(&mut self, lead: u32)
+        requires { (c : ℕ) → lead < c → set_of self.old c ≡ false }
+        ensures { self.new ≡ self.old }
+    {
+        self.end = lesser(self.end, lead as usize / 64 + 1);
     }
 
     // Makes the row equal to another.
@@ -127,7 +157,8 @@ impl BitRow {
         requires { length self.old ≡ length other.now }
         ensures { self.new ≡ other.now }
     {
-        self.words.copy_from_slice(&other.words);
+        overwrite_words(&mut self.words, self.end, &other.words, other.end);
+        self.end = other.end;
     }
 }
 

@@ -1,5 +1,6 @@
 ghost use Rattle.std.specs.Prelude.{◌≡◌, ◌≢◌, ℕ, Bool, ◌+◌, ◌++◌, ◌<◌, ◌≤◌, ◌↔◌, List, [], ◌∷◌, length, true, false, slice_get, slice_index_or, IsTrue, IfOk, OnOk, OnErr, MatchBool, MatchOption, MatchResult, IfSome};
 ghost use Rattle.std.specs.Prelude.{All, take};
+ghost use Rattle.std.specs.Bool.{OnFalse};
 ghost use Rattle.std.specs.Option.{option_copied};
 ghost use Rattle.span_model.specs.Columns.{Columns, set_of, sets_of, empty, ◌△◌};
 ghost use Rattle.span_model.specs.Span.{difference, InSpan, Spans, SameSpan, IsIndependent, IsSum, IsMeet};
@@ -126,7 +127,7 @@ fn reduce_lead(rows: &Vec<BitRow>, leads: &Vec<Lead>, row: &mut BitRow) -> Optio
     while let Some(c) = row.last_before(end) {
         match find(leads, most, c) {
             Ok(k) => {
-                row.add_to(&rows[leads[k].row as usize], c);
+                row.add(&rows[leads[k].row as usize]);
                 most = k;
                 end = c;
             }
@@ -147,7 +148,7 @@ fn reduce(rows: &Vec<BitRow>, leads: &Vec<Lead>, row: &mut BitRow)
     let mut end = row.columns();
     while let Some(k) = last_led(leads, row, most, end) {
         let lead = leads[k];
-        row.add_to(&rows[lead.row as usize], lead.column);
+        row.add(&rows[lead.row as usize]);
         most = k;
         end = lead.column;
     }
@@ -174,11 +175,23 @@ fn reduce_traced(
     while let Some(k) = last_led(leads, row, most, end) {
         let lead = leads[k];
         let place = lead.row as usize;
-        row.add_to(&rows[place], lead.column);
+        row.add(&rows[place]);
         trace.add(&traces[place]);
         most = k;
         end = lead.column;
     }
+}
+
+// Whether the column of one of the leads is the greatest one of a member of the span.
+fn any_leads(leads: &Vec<Lead>, span: &Span) -> bool
+    ensures { OnFalse result ((k : ℕ) → k < length leads.now.items → LeadsNoMember (row_sets span.now) (lead_at leads.now.items k).column) }
+{
+    for k in 0..leads.len() {
+        if span.has_lead(leads[k].column) {
+            return true;
+        }
+    }
+    false
 }
 
 impl Span {
@@ -284,6 +297,18 @@ impl Span {
         self.rows.get(k as usize)
     }
 
+    /// The rows that the span keeps, of which nothing is copied.
+    pub fn into_rows(self) -> Vec<BitRow>
+        ensures { result.items ≡ self.rows }
+    {
+        let Span {
+            columns: _columns,
+            rows,
+            leads: _leads,
+        } = self;
+        rows
+    }
+
     /// A member that is not empty.
     pub fn first_nonzero(&self) -> Option<&BitRow>
         ensures { MatchOption result (self.now.rows ≡ []) (λ row. (length row.now ≡ self.now.columns) × InSpan (row_sets self.now) (set_of row.now) × ((c : ℕ) × (set_of row.now c ≡ true))) }
@@ -308,6 +333,9 @@ impl Span {
         ensures columns { IfOk result (λ meet. meet.columns ≡ a.now.columns) }
         ensures members { IfOk result (λ meet. IsMeet (row_sets meet) (row_sets a.now) (row_sets b.now)) }
     {
+        if !any_leads(&a.leads, b) {
+            return Span::new(alloc, a.columns);
+        }
         Span::meet_sum(alloc, a, &[], b)
     }
 
@@ -331,6 +359,16 @@ impl Span {
         ensures last { MatchOption result (set_of row.new ≡ empty) (λ c. IsLast (set_of row.new) c × LeadsNoMember (row_sets self.now) c) }
     {
         reduce_lead(&self.rows, &self.leads, row)
+    }
+
+    /// Whether a member has the column as its greatest one.
+    pub fn has_lead(&self, c: u32) -> bool
+        ensures { MatchBool result ((v : Columns ℕ) × InSpan (row_sets self.now) v × IsLast v c) (LeadsNoMember (row_sets self.now) c) }
+    {
+        match find(&self.leads, self.leads.len(), c) {
+            Ok(_) => true,
+            Err(_) => false,
+        }
     }
 
     /// Reduces a row, where each row of the span has a trace: with each row that is added to the row, its trace is added to the row's trace.
@@ -454,6 +492,8 @@ impl Span {
             Err(n) => n,
         };
         let number = self.rows.len() as u32;
+        let mut row = row;
+        row.cut_past(lead);
         self.rows.push(row)?;
         match self.leads.insert(
             at,

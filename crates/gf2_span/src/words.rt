@@ -2,7 +2,7 @@
 ghost use Rattle.std.specs.Prelude.{◌≡◌, ℕ, ◌+◌, ◌*◌, ◌<◌, ◌≤◌, ◌^◌, ◌≢◌, length, slice_index, vec_len, bit_xor, MatchOption, false};
 ghost use Rattle.std.specs.Bool.{OnTrue};
 ghost use Rattle.std.specs.Simd.Lanes.{zip2, chunk, put_chunk};
-ghost use Rattle.gf2_span.specs.Rows.{IsFirst};
+ghost use Rattle.gf2_span.specs.Rows.{IsFirst, IsFirstFrom};
 ghost use Rattle.gf2_span.specs.Words.{is_set, IsLastBelow};
 
 use std::simd::prelude::*;
@@ -48,12 +48,110 @@ pub(crate) fn add_words(words: &mut Vec<u64>, other: &[u64], end: usize)
     add_slice(words.as_mut_slice(), other, end);
 }
 
-// The place of the first one.
-pub(crate) fn first_bit(words: &[u64]) -> Option<usize>
-    requires { length words.now < 2 ^ 32 }
+// Makes eight words equal to others.
+fn copy_lanes(words: &mut [u64], other: &[u64], at: usize)
+    requires same { length words.old ≡ length other.now }
+    requires room { at + 8 ≤ length other.now }
+    ensures { words.new ≡ put_chunk at words.old (chunk at 8 other.now) }
+{
+    let lanes = u64x8::from_slice(&other[at..]);
+    lanes.copy_to_slice(&mut words[at..]);
+}
+
+// Makes `words`, which are zero from `old_end` on, equal to `other`, which is zero from `end` on.
+fn overwrite_slice(words: &mut [u64], old_end: usize, other: &[u64], end: usize)
+    requires same { length words.old ≡ length other.now }
+    requires old_within { old_end ≤ length other.now }
+    requires within { end ≤ length other.now }
+    requires old_clear { (c : ℕ) → 64 * old_end ≤ c → is_set words.old c ≡ false }
+    requires clear { (c : ℕ) → 64 * end ≤ c → is_set other.now c ≡ false }
+    ensures { words.new ≡ other.now }
+{
+    let mut at = 0;
+    while end - at >= LANES {
+        copy_lanes(words, other, at);
+        at += LANES;
+    }
+    while at < end {
+        words[at] = other[at];
+        at += 1;
+    }
+    while at < old_end {
+        words[at] = 0;
+        at += 1;
+    }
+}
+
+// The same in a `Vec`.
+pub(crate) fn overwrite_words(words: &mut Vec<u64>, old_end: usize, other: &[u64], end: usize)
+    requires same { vec_len words.old ≡ length other.now }
+    requires old_within { old_end ≤ length other.now }
+    requires within { end ≤ length other.now }
+    requires old_clear { (c : ℕ) → 64 * old_end ≤ c → is_set words.old.items c ≡ false }
+    requires clear { (c : ℕ) → 64 * end ≤ c → is_set other.now c ≡ false }
+    ensures { words.new.items ≡ other.now }
+{
+    overwrite_slice(words.as_mut_slice(), old_end, other, end);
+}
+
+// Whether words are those of the other row, where both are zero from `end` on.
+pub(crate) fn are_same(words: &[u64], other: &[u64], end: usize) -> bool
+    requires same { length words.now ≡ length other.now }
+    requires within { end ≤ length other.now }
+    requires clear { (c : ℕ) → 64 * end ≤ c → is_set words.now c ≡ false }
+    requires other_clear { (c : ℕ) → 64 * end ≤ c → is_set other.now c ≡ false }
+    ensures { OnTrue result (words.now ≡ other.now) }
+{
+    for k in 0..end {
+        if words[k] != other[k] {
+            return false;
+        }
+    }
+    true
+}
+
+// The greater of two numbers.
+pub(crate) fn greater(a: usize, b: usize) -> usize
+    ensures first { a ≤ result }
+    ensures second { b ≤ result }
+    ensures least { (m : ℕ) → a ≤ m → b ≤ m → result ≤ m }
+{
+    if a < b { b } else { a }
+}
+
+// The lesser of two numbers.
+pub(crate) fn lesser(a: usize, b: usize) -> usize
+    ensures first { result ≤ a }
+    ensures second { result ≤ b }
+    ensures greatest { (m : ℕ) → result ≤ m → m < a → b ≤ m }
+{
+    if a < b { a } else { b }
+}
+
+// The place of the first one in words of which those from `end` on are zero.
+pub(crate) fn first_bit(words: &[u64], end: usize) -> Option<usize>
+    requires short { length words.now < 2 ^ 32 }
+    requires within { end ≤ length words.now }
+    requires clear { (c : ℕ) → 64 * end ≤ c → is_set words.now c ≡ false }
     ensures { MatchOption result ((c : ℕ) → is_set words.now c ≡ false) (λ b. IsFirst (is_set words.now) b) }
 {
     let mut at = 0;
+    while at < end {
+        let word = words[at];
+        if word != 0 {
+            return Some(64 * at + word.trailing_zeros() as usize);
+        }
+        at += 1;
+    }
+    None
+}
+
+// The place of the first one from the word `from` on.
+fn first_in_words(words: &[u64], from: usize) -> Option<usize>
+    requires { length words.now < 2 ^ 32 }
+    ensures { MatchOption result ((c : ℕ) → 64 * from ≤ c → is_set words.now c ≡ false) (λ b. IsFirstFrom (is_set words.now) (64 * from) b) }
+{
+    let mut at = from;
     while at < words.len() {
         let word = words[at];
         if word != 0 {
@@ -62,6 +160,22 @@ pub(crate) fn first_bit(words: &[u64]) -> Option<usize>
         at += 1;
     }
     None
+}
+
+// The place of the first one from `start` on.
+pub(crate) fn first_bit_from(words: &[u64], start: usize) -> Option<usize>
+    requires { length words.now < 2 ^ 32 }
+    ensures { MatchOption result ((c : ℕ) → start ≤ c → is_set words.now c ≡ false) (λ b. IsFirstFrom (is_set words.now) start b) }
+{
+    let at = start / 64;
+    if at >= words.len() {
+        return None;
+    }
+    let word = words[at] >> (start % 64);
+    if word != 0 {
+        return Some(start + word.trailing_zeros() as usize);
+    }
+    first_in_words(words, at + 1)
 }
 
 // Whether eight words are zero.

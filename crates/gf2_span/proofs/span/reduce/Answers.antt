@@ -13,13 +13,13 @@ loop-k-preserved c =
     let read : (length c.index.result.now ≡ length c.args.row.now) × IsRead c.args.rows.now.items c.args.leads.now.items c.in-Some.k c.index.result.now =
     read_row (length c.args.row.now) c.args.rows.now.items c.args.leads.now.items c.in-Some.k c.index-lead.result.now.row c.index.result.now c.requires inside
     (ap (λ (l : Lead). l.row) at) c.index.ensures in
-    let P : ℕ → Type 0 = λ e. IsReducing c.args.leads.now.items c.add_to.new.self c.in-Some.k e in
+    let P : ℕ → Type 0 = λ e. IsReducing c.args.leads.now.items c.add.new.self c.in-Some.k e in
     record {
-      long = c.add_to.ensures.columns ∙ c.loop-k.invariant.long;
-      same = added_in c.args.rows.now.items c.args.row.now c.loop-k.row c.add_to.new.self c.index.result.now c.loop-k.invariant.same read.1.member c.add_to.ensures.sum;
+      long = c.add.ensures.columns ∙ c.loop-k.invariant.long;
+      same = added_in c.args.rows.now.items c.args.row.now c.loop-k.row c.add.new.self c.index.result.now c.loop-k.invariant.same read.1.member c.add.ensures.sum;
       reducing = subst P (ap (λ (l : Lead). l.column) (sym at))
-          (reducing_more c.args.rows.now.items c.args.leads.now.items c.loop-k.row c.add_to.new.self c.index.result.now c.loop-k.most c.loop-k.end c.in-Some.k
-          c.requires.ascending c.loop-k.invariant.reducing c.in-Some.ensures.0 c.in-Some.ensures.1 c.in-Some.ensures.2 read.1 c.add_to.ensures.columns c.add_to.ensures.sum);
+          (reducing_more c.args.rows.now.items c.args.leads.now.items c.loop-k.row c.add.new.self c.index.result.now c.loop-k.most c.loop-k.end c.in-Some.k
+          c.requires.ascending c.loop-k.invariant.reducing c.in-Some.ensures.0 c.in-Some.ensures.1 c.in-Some.ensures.2 read.1 c.add.ensures.columns c.add.ensures.sum);
     }
 
 pub returns-clause-clear : goal.returns-clause-clear

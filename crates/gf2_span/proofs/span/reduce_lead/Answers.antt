@@ -16,15 +16,15 @@ loop-c-preserved c =
     read_row (length c.args.row.now) c.args.rows.now.items c.args.leads.now.items c.in-Ok.k c.index.result.now.row c.index-in-Ok.result.now c.requires inside
     (ap (λ (l : Lead). l.row) at) c.index-in-Ok.ensures in
     record {
-      long = c.add_to.ensures.columns ∙ c.loop-c.invariant.long;
-      same = added_in c.args.rows.now.items c.args.row.now c.loop-c.row c.add_to.new.self c.index-in-Ok.result.now c.loop-c.invariant.same read.1.member c.add_to.ensures.sum;
+      long = c.add.ensures.columns ∙ c.loop-c.invariant.long;
+      same = added_in c.args.rows.now.items c.args.row.now c.loop-c.row c.add.new.self c.index-in-Ok.result.now c.loop-c.invariant.same read.1.member c.add.ensures.sum;
       kept = λ none. absurd (led_not_free (length c.args.row.now) c.args.rows.now.items c.args.leads.now.items c.in-Some.c c.in-Ok.k c.requires
           (no_lead_free (sets_of c.args.rows.now.items) (set_of c.loop-c.row) c.in-Some.c
           (no_lead_as (sets_of c.args.rows.now.items) (set_of c.args.row.now) (set_of c.loop-c.row) (ap set_of (sym (c.loop-c.invariant.kept none))) none)
           (lowering_last c.args.leads.now.items c.loop-c.row c.loop-c.most c.loop-c.end c.in-Some.c c.loop-c.invariant.lowering c.in-Some.ensures))
           inside c.in-Ok.ensures.1);
-      lowering = lowering_more c.args.rows.now.items c.args.leads.now.items c.loop-c.row c.add_to.new.self c.index-in-Ok.result.now c.loop-c.most c.loop-c.end c.in-Some.c c.in-Ok.k
-          c.requires.ascending c.loop-c.invariant.lowering c.in-Some.ensures c.in-Ok.ensures.0 c.in-Ok.ensures.1 read.1 c.add_to.ensures.columns c.add_to.ensures.sum;
+      lowering = lowering_more c.args.rows.now.items c.args.leads.now.items c.loop-c.row c.add.new.self c.index-in-Ok.result.now c.loop-c.most c.loop-c.end c.in-Some.c c.in-Ok.k
+          c.requires.ascending c.loop-c.invariant.lowering c.in-Some.ensures c.in-Ok.ensures.0 c.in-Ok.ensures.1 read.1 c.add.ensures.columns c.add.ensures.sum;
     }
 
 pub returns-in-Err-clause-rest : goal.returns-in-Err-clause-rest

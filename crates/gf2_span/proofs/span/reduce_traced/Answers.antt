@@ -16,17 +16,17 @@ loop-k-preserved c =
     (ap (λ (l : Lead). l.row) at) c.index.ensures in
     let place : c.index-lead.result.now.row < length c.args.rows.now.items =
     read_place (length c.args.row.now) c.args.rows.now.items c.args.leads.now.items c.in-Some.k c.index-lead.result.now.row c.requires.echelon inside (ap (λ (l : Lead). l.row) at) in
-    let P : ℕ → Type 0 = λ e. IsReducing c.args.leads.now.items c.add_to.new.self c.in-Some.k e in
+    let P : ℕ → Type 0 = λ e. IsReducing c.args.leads.now.items c.add.new.self c.in-Some.k e in
     record {
-      long = c.add_to.ensures.columns ∙ c.loop-k.invariant.long;
-      trace_long = c.add.ensures.columns ∙ c.loop-k.invariant.trace_long;
-      traced = traced_more c.args.rows.now.items c.args.traces.now c.args.row.now c.args.trace.now c.loop-k.row c.loop-k.trace c.add_to.new.self c.add.new.self
+      long = c.add.ensures.columns ∙ c.loop-k.invariant.long;
+      trace_long = c.add-in-Some.ensures.columns ∙ c.loop-k.invariant.trace_long;
+      traced = traced_more c.args.rows.now.items c.args.traces.now c.args.row.now c.args.trace.now c.loop-k.row c.loop-k.trace c.add.new.self c.add-in-Some.new.self
           c.index.result.now c.index-traces-place.result c.index-lead.result.now.row c.requires.as_many place
           (c.index.ensures ∙ get_or_default c.args.rows.now.items c.index-lead.result.now.row c.index.result.now _ place) c.index-traces-place.is
-          c.add_to.ensures.sum c.add.ensures.sum c.loop-k.invariant.traced;
+          c.add.ensures.sum c.add-in-Some.ensures.sum c.loop-k.invariant.traced;
       reducing = subst P (ap (λ (l : Lead). l.column) (sym at))
-          (reducing_more c.args.rows.now.items c.args.leads.now.items c.loop-k.row c.add_to.new.self c.index.result.now c.loop-k.most c.loop-k.end c.in-Some.k
-          c.requires.echelon.ascending c.loop-k.invariant.reducing c.in-Some.ensures.0 c.in-Some.ensures.1 c.in-Some.ensures.2 read.1 c.add_to.ensures.columns c.add_to.ensures.sum);
+          (reducing_more c.args.rows.now.items c.args.leads.now.items c.loop-k.row c.add.new.self c.index.result.now c.loop-k.most c.loop-k.end c.in-Some.k
+          c.requires.echelon.ascending c.loop-k.invariant.reducing c.in-Some.ensures.0 c.in-Some.ensures.1 c.in-Some.ensures.2 read.1 c.add.ensures.columns c.add.ensures.sum);
     }
 
 pub returns-clause-clear : goal.returns-clause-clear

@@ -1,7 +1,7 @@
 use Rattle.std.proofs.Common.{ℕ, List, ◌≡◌, ◌/◌, ◌+◌, ◌∙◌, ◌<◌, length, get_or, arith}
 use Rattle.std.proofs.lemmas.List.{get_or_default}
 use Rattle.gf2_span.specs.Words.{bits_of}
-use Rattle.gf2_span.proofs.Bits.{length-bits, flip_padded, bits-flip}
+use Rattle.gf2_span.proofs.Bits.{length-bits, row_flipped, bits-flip}
 use Rattle.gf2_span.proofs.row.BitRow.flip.Goals as goal
 
 in_columns : (columns c : ℕ) (words : List ℕ) → c < length (bits_of columns words) → c < columns
@@ -13,7 +13,7 @@ in_words columns c words h long = omega arith
 pub index_mut-requires : goal.index_mut-requires
 index_mut-requires c =
     let within : c.args.c < length (bits_of c.self.inside.columns c.self.inside.words.items) = rw c.self.view_is c.requires in
-    let word : c.args.c / 64 < length c.self.inside.words.items = in_words c.self.inside.columns c.args.c c.self.inside.words.items (in_columns c.self.inside.columns c.args.c c.self.inside.words.items within) c.self.invariant.long in
+    let word : c.args.c / 64 < length c.self.inside.words.items = in_words c.self.inside.columns c.args.c c.self.inside.words.items (in_columns c.self.inside.columns c.args.c c.self.inside.words.items within) c.self.invariant.padded.long in
     omega (arith, c.self.inside.words.ok)
 
 pub invariant_of-self : goal.invariant_of-self
@@ -21,13 +21,15 @@ invariant_of-self c =
     let within : c.args.c < length (bits_of c.self.inside.columns c.self.inside.words.items) = rw c.self.view_is c.requires in
     let inside : c.args.c < c.self.inside.columns = in_columns c.self.inside.columns c.args.c c.self.inside.words.items within in
     let e : c.index_mut.result.now ≡ get_or c.self.inside.words.items (c.args.c / 64) 0 =
-    c.index_mut.ensures.value ∙ get_or_default c.self.inside.words.items (c.args.c / 64) c.index_mut.result.now 0 (in_words c.self.inside.columns c.args.c c.self.inside.words.items inside c.self.invariant.long) in
-    rw e (flip_padded c.self.inside.columns c.self.inside.words.items c.args.c c.self.invariant inside)
+    c.index_mut.ensures.value ∙ get_or_default c.self.inside.words.items (c.args.c / 64) c.index_mut.result.now 0 (in_words c.self.inside.columns c.args.c c.self.inside.words.items inside c.self.invariant.padded.long) in
+    let word : c.args.c / 64 < length c.self.inside.words.items = in_words c.self.inside.columns c.args.c c.self.inside.words.items inside c.self.invariant.padded.long in
+    rw e (row_flipped c.self.inside.columns c.self.inside.words.items c.self.inside.end c.args.c c.greater-self-inside.result c.self.invariant inside
+    c.greater-self-inside.ensures.first c.greater-self-inside.ensures.second (c.greater-self-inside.ensures.least (length c.self.inside.words.items) c.self.invariant.within (omega arith)))
 
 pub returns : goal.returns
 returns c =
     let within : c.args.c < length (bits_of c.self.inside.columns c.self.inside.words.items) = rw c.self.view_is c.requires in
     let inside : c.args.c < c.self.inside.columns = in_columns c.self.inside.columns c.args.c c.self.inside.words.items within in
     let e : c.index_mut.result.now ≡ get_or c.self.inside.words.items (c.args.c / 64) 0 =
-    c.index_mut.ensures.value ∙ get_or_default c.self.inside.words.items (c.args.c / 64) c.index_mut.result.now 0 (in_words c.self.inside.columns c.args.c c.self.inside.words.items inside c.self.invariant.long) in
-    rw (e, ← c.self.view_is) (bits-flip c.self.inside.columns c.self.inside.words.items c.args.c c.self.invariant inside)
+    c.index_mut.ensures.value ∙ get_or_default c.self.inside.words.items (c.args.c / 64) c.index_mut.result.now 0 (in_words c.self.inside.columns c.args.c c.self.inside.words.items inside c.self.invariant.padded.long) in
+    rw (e, ← c.self.view_is) (bits-flip c.self.inside.columns c.self.inside.words.items c.args.c c.self.invariant.padded inside)

@@ -11,6 +11,9 @@ overflow_cast-number c =
     let few : length c.self.inside.rows.items < 2 ^ 32 = row_fits c.self.inside.columns c.self.inside.rows.items c.self.inside.leads.items c.self.invariant in
     record { fits = omega (arith, c.len-number.ensures, c.self.inside.rows.ok) }
 
+pub cut_past-requires : goal.cut_past-requires
+cut_past-requires c = c.requires.led.none_after
+
 pub invariant_of-self-in-Ok-insert : goal.invariant_of-self-in-Ok-insert
 invariant_of-self-in-Ok-insert c =
     let rows : c.self.inside.rows.items ≡ c.args.self.now.rows = ap (λ (b : Basis). b.rows) c.self.view_is in
@@ -26,7 +29,7 @@ invariant_of-self-in-Ok-insert c =
       })
     ] in
     let number : c.len-number.result ≡ length c.self.inside.rows.items = omega (arith, c.len-number.ensures, c.self.inside.rows.ok) in
-    rw (c.in_ok-push.ensures.items, c.in-Ok-insert.ensures.items, number)
+    rw (c.in_ok-push.ensures.items, c.in-Ok-insert.ensures.items, number, c.cut_past.ensures)
     (echelon_grows c.self.inside.columns c.self.inside.rows.items c.self.inside.leads.items c.args.row c.args.lead c.match-find.at c.self.invariant wide c.requires.led place)
 
 pub returns-in-Ok-insert-clause-own : goal.returns-in-Ok-insert-clause-own

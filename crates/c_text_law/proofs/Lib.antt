@@ -6,4 +6,7 @@ pub mod Templates
 pub mod Calls
 pub mod CoreCalls
 pub mod File
+pub mod NameRules
+pub mod TemplateNames
+pub mod Names
 pub mod Law

@@ -1,7 +1,9 @@
 -- What the equations of a circuit read, and when.
-use Rattle.std.proofs.Common.{◌≡◌, ℕ, Bool, ◌+◌, ◌<◌, ◌≤◌, List, [], ◌∷◌, ◌++◌, length, take, get_or, Option, None, Some, IfSome, ◌⊎◌, sym, ap, ◌∙◌, subst, arith, inl, inr}
-use Rattle.std.proofs.lemmas.List.{take_more}
+use Rattle.std.proofs.Common.{◌≡◌, ℕ, Bool, true, false, ltb, ◌+◌, ◌<◌, ◌≤◌, List, [], ◌∷◌, ◌++◌, length, take, get_or, Option, None, Some, IfSome, ◌⊎◌, sym, ap, ◌∙◌, subst, arith, inl, inr}
+use Rattle.std.proofs.lemmas.List.{take_more, length_push, get_or_append_left, get_or_push, get_or_past}
+use Rattle.std.proofs.lemmas.Bool.{cases_lt, cases_eq}
 use Rattle.std.proofs.lemmas.Option.{slice_get_within, get_or_from_slice_get, slice_get_cases, none-some, IfSome_then}
+use Rattle.std.specs.Bool.{OnTrue}
 use Rattle.std.specs.List.{slice_get, AllByRecursion}
 use Rattle.std.specs.Option.{option_to_list}
 use Rattle.usuba0.specs.declared.circuit.Gate.{Gate}
@@ -78,3 +80,52 @@ late_more gs k d old mid new first second late rise more both p q j g below ther
   where
     cases : (j k : ℕ) → j < k + 1 → (j < k) ⊎ (j ≡ k)
     cases j k h = grind arith
+
+-- an answer that holds where a number is below another
+pub if_below : (a b : ℕ) (P : Type 0) → OnTrue (ltb a b) P → a < b → P
+if_below a b P answer h = at (ltb a b) (below a b h) answer
+  where
+    below : (a b : ℕ) → a < b → ltb a b ≡ true
+    below a b h = grind arith
+
+    at : (r : Bool) → r ≡ true → OnTrue r P → P
+    at true e p = p
+    at false e p = cc e
+
+-- rows that are put behind others: those of the new register count only where a later equation reads it
+pub keeps_made : (last : List ℕ) (k : ℕ) (old : List (List (List Bool))) (made rows : List (List Bool)) → (k < get_or last (length old) 0 → rows ≡ made)
+    → KeepsLater last k (old ++ made ∷ []) (old ++ rows ∷ [])
+keeps_made last k old made rows same = record {
+  count = length_push old rows ∙ sym (length_push old made);
+  later = λ r h. elim (cases_lt r (length old)) [
+    | inl before ↦ get_or_append_left old (rows ∷ []) [] r before ∙ sym (get_or_append_left old (made ∷ []) [] r before)
+    | inr other ↦ elim (cases_eq r (length old)) [
+      | inl here ↦ at here h
+      | inr past ↦
+          get_or_past (old ++ rows ∷ []) r [] (omega (arith, length_push old rows))
+          ∙ sym (get_or_past (old ++ made ∷ []) r [] (omega (arith, length_push old made)))
+    ]
+  ];
+}
+  where
+    at : {r : ℕ} → r ≡ length old → k < get_or last r 0 → get_or (old ++ rows ∷ []) r [] ≡ get_or (old ++ made ∷ []) r []
+    at {r} here h =
+        let read : k < get_or last (length old) 0 = subst (λ (n : ℕ). k < get_or last n 0) here h in
+        get_or_push old rows [] r (sym here) ∙ same read ∙ sym (get_or_push old made [] r (sym here))
+
+-- and what is kept of old rows is kept where rows are put behind
+pub keeps_push : {last : List ℕ} {k : ℕ} {old new : List (List (List Bool))} (rows : List (List Bool)) → KeepsLater last k old new
+    → KeepsLater last k (old ++ rows ∷ []) (new ++ rows ∷ [])
+keeps_push {last} {k} {old} {new} rows keeps = record {
+  count = length_push new rows ∙ ap (λ (n : ℕ). n + 1) keeps.count ∙ sym (length_push old rows);
+  later = λ r h. elim (cases_lt r (length old)) [
+    | inl before ↦
+        get_or_append_left new (rows ∷ []) [] r (omega (arith, keeps.count, before)) ∙ keeps.later r h ∙ sym (get_or_append_left old (rows ∷ []) [] r before)
+    | inr other ↦ elim (cases_eq r (length old)) [
+      | inl here ↦ get_or_push new rows [] r (keeps.count ∙ sym here) ∙ sym (get_or_push old rows [] r (sym here))
+      | inr past ↦
+          get_or_past (new ++ rows ∷ []) r [] (omega (arith, length_push new rows, keeps.count))
+          ∙ sym (get_or_past (old ++ rows ∷ []) r [] (omega (arith, length_push old rows)))
+    ]
+  ];
+}

@@ -21,6 +21,18 @@ reads (gate.Shr k a) = a ∷ []
 reads (gate.Rotl k a) = a ∷ []
 reads (gate.Refresh a) = a ∷ []
 
+-- the registers of whose rows those of the equation's own register are made: none where that has columns of its own
+abbrev pub needs : Gate → List Reg
+needs (gate.Const c) = []
+needs (gate.Xor a b) = a ∷ b ∷ []
+needs (gate.Not a) = a ∷ []
+needs (gate.Mask c a) = a ∷ []
+needs (gate.And a b) = []
+needs (gate.Shl k a) = a ∷ []
+needs (gate.Shr k a) = a ∷ []
+needs (gate.Rotl k a) = a ∷ []
+needs (gate.Refresh a) = []
+
 -- no column of this kind and number is among the columns
 abbrev pub IsNewName : ColumnKind → ℕ → List Column → Type 0
 IsNewName kind number columns = (bit : ℕ) → list_any (same_column (record { kind = kind; number = number; bit = bit })) columns ≡ false
@@ -37,6 +49,11 @@ AreReadLate last_reads k g = AllByRecursion (λ (a : Reg). k ≤ slice_index las
 abbrev pub HoldsReads : List Column → RegisterRows → List (List (List Bool)) → Gate → Type 0
 HoldsReads columns registers held g =
     AllByRecursion (λ (a : Reg). slice_index_or held a.0 [] ≡ rows_over columns (rows_at registers a)) (reads g)
+
+-- the same rows are held of each register that the equation needs
+abbrev pub HoldsNeeds : List Column → RegisterRows → List (List (List Bool)) → Gate → Type 0
+HoldsNeeds columns registers held g =
+    AllByRecursion (λ (a : Reg). slice_index_or held a.0 [] ≡ rows_over columns (rows_at registers a)) (needs g)
 
 -- the rows of each register that is read after equation k stayed as they were
 pub record KeepsLater (last_reads : List ℕ) (k : ℕ) (old new : List (List (List Bool))) : Type 0 where

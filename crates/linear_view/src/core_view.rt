@@ -7,8 +7,9 @@ ghost use Rattle.linear_view.specs.Rows.{core_view, core_rows, rows_at, rows_ove
 use crate::column::Column;
 use crate::names::columns_of;
 use crate::rows::{input_registers, pair_of, push_register};
+use crate::seen::Seen;
 use crate::view::{Pair, View};
-use crate::walk::{Stage, equations_of, last_reads};
+use crate::walk::{Stage, last_reads};
 use gf2_span::BitRow;
 use indexmap::IndexSet;
 use std::alloc::{AllocError, Global};
@@ -21,9 +22,9 @@ pub fn view_of(alloc: Global, core: &Core) -> Result<View, AllocError>
     requires registers { length core.now.equations * core.now.width ≤ 131072 }
     ensures { IfOk result (λ view. view ≡ core_view core.now) }
 {
-    let gates = equations_of(alloc, core)?;
-    let columns = columns_of(alloc, core.width(), core.inputs(), gates.as_slice())?;
-    let products = product_operands(alloc, core, &columns, gates.as_slice())?;
+    let gates = core.equation_slice();
+    let columns = columns_of(alloc, core.width(), core.inputs(), gates)?;
+    let products = product_operands(alloc, core, &columns, gates)?;
     Ok(View::new(columns, products))
 }
 
@@ -34,9 +35,9 @@ pub fn rows_of(alloc: Global, core: &Core, reg: Reg) -> Result<List<BitRow>, All
     requires register { reg.0 < circuit.registers core.now }
     ensures { IfOk result (λ rows. rows ≡ rows_over (core_columns core.now) (rows_at (core_rows core.now) reg)) }
 {
-    let gates = equations_of(alloc, core)?;
-    let columns = columns_of(alloc, core.width(), core.inputs(), gates.as_slice())?;
-    register_rows(alloc, core, &columns, gates.as_slice(), reg)
+    let gates = core.equation_slice();
+    let columns = columns_of(alloc, core.width(), core.inputs(), gates)?;
+    register_rows(alloc, core, &columns, gates, reg)
 }
 
 // The rows of one register.
@@ -86,9 +87,17 @@ fn product_operands(
     let last = last_reads(alloc, width, inputs, gates)?;
     let mut registers = input_registers(alloc, columns, width, inputs)?;
     let mut stage = Stage::first(width);
+    let mut seen = Seen::new(alloc, core.products())?;
     let mut products = Vec::new(alloc);
     for gate in gates {
-        if let Some(pair) = pair_of(alloc, registers.as_slice(), gate)? {
+        if let Some(pair) = pair_of(
+            alloc,
+            last.as_slice(),
+            stage.equations,
+            &mut registers,
+            &mut seen,
+            gate,
+        )? {
             products.push(pair)?;
         }
         push_register(alloc, columns, stage, last.as_slice(), &mut registers, gate)?;

@@ -7,6 +7,7 @@ mod laws;
 mod names;
 mod operand;
 mod rows;
+mod seen;
 mod text;
 mod view;
 mod walk;

@@ -1,18 +1,21 @@
 // The rows of registers, as bits over the columns of a circuit.
-ghost use Rattle.std.specs.Prelude.{◌≡◌, ℕ, ◌+◌, ◌<◌, ◌≤◌, ◌^◌, ◌++◌, ◌∷◌, [], false, length, map, vec_len, slice_index, slice_index_or, slice_get, replicate, IfOk, IfSome, OnOk};
+ghost use Rattle.std.specs.Prelude.{◌≡◌, ◌≢◌, ℕ, ◌+◌, ◌<◌, ◌≤◌, ◌^◌, ◌++◌, ◌∷◌, [], false, length, map, vec_len, slice_index, slice_index_or, slice_get, replicate, IfOk, IfSome, OnOk};
+ghost use Rattle.std.specs.Bool.{OnTrue};
 ghost use Rattle.std.specs.List.{range_with_len};
 ghost use Rattle.std.specs.Option.{option_to_list, option_copied};
 ghost use Rattle.usuba0.specs.Circuit.{IsEquation};
 ghost use Rattle.linear_view.specs.Names.{bits};
 ghost use Rattle.linear_view.specs.Rows.{RegisterRows, own_row, input_rows, gate_row, gate_rows, gate_product, rows_over, operands_over, Names};
-ghost use Rattle.linear_view.specs.Walk.{HoldsReads, KeepsLater};
+ghost use Rattle.linear_view.specs.Walk.{HoldsReads, HoldsNeeds, KeepsLater};
 
 use crate::column::{Column, ColumnKind};
+use crate::seen::Seen;
 use crate::view::Pair;
 use crate::walk::{Stage, reads};
 use gf2_span::{BitRow, copy_rows};
 use indexmap::IndexSet;
 use std::alloc::{AllocError, Global};
+use std::mem;
 use tor_edge::List;
 use usuba0::{Gate, Reg};
 
@@ -80,20 +83,42 @@ pub(crate) fn push_register(
     requires few { length columns.now.keys < 2 ^ 32 }
     requires width { stage.width ≤ 64 }
     requires gate { IsEquation stage.width (vec_len registers.old) gate.now }
-    requires held { (all : RegisterRows) × HoldsReads columns.now.keys all registers.old.items gate.now }
+    requires held { (all : RegisterRows) × HoldsNeeds columns.now.keys all registers.old.items gate.now }
     requires known { vec_len registers.old < length last_reads.now }
-    ensures { OnOk result ((all : RegisterRows) → HoldsReads columns.now.keys all registers.old.items gate.now
+    ensures { OnOk result ((all : RegisterRows) → HoldsNeeds columns.now.keys all registers.old.items gate.now
         → let made = rows_over columns.now.keys (gate_rows stage.width stage.products stage.refreshes all gate.now) in
         KeepsLater last_reads.now stage.equations (registers.old.items ++ made ∷ []) registers.new.items) }
 {
-    let made = registers.len();
-    let rows = gate_rows(alloc, columns, stage, registers.as_slice(), gate)?;
+    let is_read = stage.equations < last_reads[registers.len()];
+    let rows = rows_if_read(alloc, columns, stage, registers.as_slice(), gate, is_read)?;
     registers.push(rows)?;
     let (first, second) = reads(gate);
     release_read(alloc, registers, last_reads, stage.equations, first);
     release_read(alloc, registers, last_reads, stage.equations, second);
-    release(alloc, registers, last_reads, stage.equations, made);
     Ok(())
+}
+
+// The rows of the register that the equation makes, or none where it is not read.
+fn rows_if_read(
+    alloc: Global,
+    columns: &IndexSet<Column>,
+    stage: Stage,
+    registers: &[List<BitRow>],
+    gate: &Gate,
+    is_read: bool,
+) -> Result<List<BitRow>, AllocError>
+    requires few { length columns.now.keys < 2 ^ 32 }
+    requires width { stage.width ≤ 64 }
+    requires gate { IsEquation stage.width (length registers.now) gate.now }
+    requires held { (all : RegisterRows) × HoldsNeeds columns.now.keys all registers.now gate.now }
+    ensures { IfOk result (λ rows. OnTrue is_read ((all : RegisterRows) → HoldsNeeds columns.now.keys all registers.now gate.now
+        → rows ≡ rows_over columns.now.keys (gate_rows stage.width stage.products stage.refreshes all gate.now))) }
+{
+    if is_read {
+        gate_rows(alloc, columns, stage, registers, gate)
+    } else {
+        Ok(List::new(alloc))
+    }
 }
 
 // Drops the rows of the register that equation `k` reads, if there is one and no later equation reads it.
@@ -143,11 +168,11 @@ fn gate_rows(
     requires few { length columns.now.keys < 2 ^ 32 }
     requires width { stage.width ≤ 64 }
     requires gate { IsEquation stage.width (length registers.now) gate.now }
-    requires held { (all : RegisterRows) × HoldsReads columns.now.keys all registers.now gate.now }
-    ensures { IfOk result (λ rows. (all : RegisterRows) → HoldsReads columns.now.keys all registers.now gate.now
+    requires held { (all : RegisterRows) × HoldsNeeds columns.now.keys all registers.now gate.now }
+    ensures { IfOk result (λ rows. (all : RegisterRows) → HoldsNeeds columns.now.keys all registers.now gate.now
         → rows ≡ rows_over columns.now.keys (gate_rows stage.width stage.products stage.refreshes all gate.now)) }
 {
-    let mut rows = List::new(alloc);
+    let mut rows = List::from_vec(Vec::with_capacity(alloc, stage.width as usize)?);
     for bit in 0..stage.width {
         rows.push(gate_row(alloc, columns, stage, registers, gate, bit)?)?;
     }
@@ -167,8 +192,8 @@ fn gate_row(
     requires width { stage.width ≤ 64 }
     requires bit { bit < stage.width }
     requires gate { IsEquation stage.width (length registers.now) gate.now }
-    requires held { (all : RegisterRows) × HoldsReads columns.now.keys all registers.now gate.now }
-    ensures { IfOk result (λ row. (all : RegisterRows) → HoldsReads columns.now.keys all registers.now gate.now
+    requires held { (all : RegisterRows) × HoldsNeeds columns.now.keys all registers.now gate.now }
+    ensures { IfOk result (λ row. (all : RegisterRows) → HoldsNeeds columns.now.keys all registers.now gate.now
         → row ≡ map (gate_row stage.width stage.products stage.refreshes all gate.now bit) columns.now.keys) }
 {
     let empty = columns.len() as u32;
@@ -232,22 +257,68 @@ fn copy_of(
     }
 }
 
-// The rows of both operands of the equation, if it is a product.
+// The rows of both operands of the equation, if it is a product. Rows that no later equation reads are moved out of the registers.
 pub(crate) fn pair_of(
     alloc: Global,
-    registers: &[List<BitRow>],
+    last_reads: &[usize],
+    k: usize,
+    registers: &mut Vec<List<BitRow>>,
+    seen: &mut Seen,
     gate: &Gate,
 ) -> Result<Option<Pair>, AllocError>
-    requires { (width : ℕ) × IsEquation width (length registers.now) gate.now }
-    ensures { IfOk result (λ pair. (columns : Names) (all : RegisterRows) → HoldsReads columns all registers.now gate.now
+    requires gate { (width : ℕ) × IsEquation width (vec_len registers.old) gate.now }
+    requires known { vec_len registers.old ≤ length last_reads.now }
+    ensures pair { IfOk result (λ pair. (columns : Names) (all : RegisterRows) → HoldsReads columns all registers.old.items gate.now
         → option_to_list pair ≡ map (operands_over columns) (gate_product all gate.now)) }
+    ensures kept { OnOk result (KeepsLater last_reads.now k registers.old.items registers.new.items) }
+    ensures needs { OnOk result ((columns : Names) (all : RegisterRows) → HoldsReads columns all registers.old.items gate.now
+        → HoldsNeeds columns all registers.new.items gate.now) }
 {
     match *gate {
         Gate::And(a, b) => {
-            let left = copy_rows(alloc, registers[a.0 as usize].as_slice())?;
-            let right = copy_rows(alloc, registers[b.0 as usize].as_slice())?;
-            Ok(Some(Pair::new(List::from_vec(left), List::from_vec(right))))
+            let left = if a.0 == b.0 {
+                copied(alloc, registers, a)?
+            } else {
+                taken(alloc, last_reads, k, registers, a)?
+            };
+            let right = taken(alloc, last_reads, k, registers, b)?;
+            Ok(Some(Pair::new(seen.share(alloc, left)?, seen.share(alloc, right)?)))
         }
         _ => Ok(None),
     }
+}
+
+// A copy of the rows of a register.
+fn copied(
+    alloc: Global,
+    registers: &Vec<List<BitRow>>,
+    register: Reg,
+) -> Result<List<BitRow>, AllocError>
+    requires { register.0 < vec_len registers.now }
+    ensures { IfOk result (λ rows. rows ≡ slice_index_or registers.now.items register.0 []) }
+{
+    let rows = copy_rows(alloc, registers[register.0 as usize].as_slice())?;
+    Ok(List::from_vec(rows))
+}
+
+// The rows of a register, which keeps them where an equation after number `k` reads it.
+fn taken(
+    alloc: Global,
+    last_reads: &[usize],
+    k: usize,
+    registers: &mut Vec<List<BitRow>>,
+    register: Reg,
+) -> Result<List<BitRow>, AllocError>
+    requires known { register.0 < length last_reads.now }
+    requires held { register.0 < vec_len registers.old }
+    ensures rows { IfOk result (λ rows. rows ≡ slice_index_or registers.old.items register.0 []) }
+    ensures kept { KeepsLater last_reads.now k registers.old.items registers.new.items }
+    ensures others { (r : ℕ) → r ≢ register.0
+        → slice_index_or registers.new.items r [] ≡ slice_index_or registers.old.items r [] }
+{
+    if k < last_reads[register.0 as usize] {
+        return copied(alloc, registers, register);
+    }
+    let rows = mem::replace(&mut registers[register.0 as usize], List::new(alloc));
+    Ok(rows)
 }

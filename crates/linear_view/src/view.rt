@@ -11,13 +11,14 @@ use gf2_span::BitRow;
 use indexmap::IndexSet;
 use std::alloc::{AllocError, Global};
 use std::marker::Model;
+use std::rc::Rc;
 use tor_edge::List;
 
-/// The rows of both operands of a product.
-#[derive(Debug, Drop)]
+/// The rows of both operands of a product, which other operands may share.
+#[derive(Drop)]
 pub struct Pair {
-    left: List<BitRow>,
-    right: List<BitRow>,
+    left: Rc<List<BitRow>, Global>,
+    right: Rc<List<BitRow>, Global>,
 }
 
 /// The columns of a circuit, and the rows of the operands of its products.
@@ -32,7 +33,7 @@ impl Model for Pair {
 
     ghost Value = { Operands };
 
-    ghost view = { λ pair. record { left = pair.left; right = pair.right } };
+    ghost view = { λ pair. record { left = pair.left.value; right = pair.right.value } };
 }
 
 impl Model for View {
@@ -46,8 +47,8 @@ impl Model for View {
 }
 
 impl Pair {
-    pub(crate) fn new(left: List<BitRow>, right: List<BitRow>) -> Pair
-        ensures { result ≡ record { left = left; right = right } }
+    pub(crate) fn new(left: Rc<List<BitRow>, Global>, right: Rc<List<BitRow>, Global>) -> Pair
+        ensures { result ≡ record { left = left.value; right = right.value } }
     {
         Pair { left, right }
     }
@@ -55,13 +56,13 @@ impl Pair {
     pub(crate) fn left(&self) -> &List<BitRow>
         ensures { result.now ≡ self.now.left }
     {
-        &self.left
+        self.left.as_ref()
     }
 
     pub(crate) fn right(&self) -> &List<BitRow>
         ensures { result.now ≡ self.now.right }
     {
-        &self.right
+        self.right.as_ref()
     }
 }
 
@@ -178,6 +179,13 @@ pub fn view_with(
     Ok(View::new(columns, products))
 }
 
+// The operands of a product.
+fn paired(alloc: Global, left: List<BitRow>, right: List<BitRow>) -> Result<Pair, AllocError>
+    ensures { IfOk result (λ pair. pair ≡ record { left = left; right = right }) }
+{
+    Ok(Pair::new(Rc::new(alloc, left)?, Rc::new(alloc, right)?))
+}
+
 // The left and right operands in pairs.
 fn pairs(
     alloc: Global,
@@ -190,7 +198,7 @@ fn pairs(
     let mut pairs = Vec::new(alloc);
     while let Some(rows) = left.pop() {
         if let Some(others) = right.pop() {
-            pairs.push(Pair::new(rows, others))?;
+            pairs.push(paired(alloc, rows, others)?)?;
         }
     }
     pairs.reverse();

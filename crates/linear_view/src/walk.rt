@@ -5,7 +5,7 @@ ghost use Rattle.usuba0.specs.Circuit.{AreEquations, products_of, refreshes_of};
 ghost use Rattle.linear_view.specs.Walk.{reads, AreReadLate};
 
 use std::alloc::{AllocError, Global};
-use usuba0::{Core, Gate, Reg};
+use usuba0::{Gate, Reg};
 
 // The width, and how many equations, products and refreshes came so far.
 #[derive(Clone, Copy)]
@@ -56,19 +56,6 @@ impl Stage {
             refreshes,
         }
     }
-}
-
-// The equations of the circuit, in order.
-pub(crate) fn equations_of(alloc: Global, core: &Core) -> Result<Vec<Gate>, AllocError>
-    ensures { IfOk result (λ gates. gates.items ≡ core.now.equations) }
-{
-    let mut gates = Vec::new(alloc);
-    for k in 0..core.equations() {
-        if let Some(gate) = core.equation(k) {
-            gates.push(*gate)?;
-        }
-    }
-    Ok(gates)
 }
 
 // The registers that the equation reads, none to two of them.

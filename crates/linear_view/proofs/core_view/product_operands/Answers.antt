@@ -1,12 +1,13 @@
-use Rattle.std.proofs.Common.{ℕ, Bool, List, [], ◌∷◌, ◌++◌, Option, length, get_or, subst, sym, ap, ◌∙◌, arith, append-nil}
+use Rattle.std.proofs.Common.{ℕ, List, [], ◌∷◌, ◌++◌, Option, length, get_or, subst, sym, ap, ◌∙◌, arith, append-nil}
 use Rattle.std.proofs.lemmas.Option.{slice_get-get_or}
 use Rattle.std.specs.Option.{option_to_list}
 use Rattle.usuba0.specs.declared.circuit.Gate.TheVariants as gate
 use Rattle.linear_view.specs.Rows.{gate_rows, rows_over}
 use Rattle.linear_view.specs.View.{Operands}
-use Rattle.linear_view.specs.Walk.{HoldsReads, KeepsLater}
+use Rattle.linear_view.specs.Walk.{KeepsLater}
 use Rattle.linear_view.proofs.CoreLemmas.{all_rows, core_equations, under_way_first, under_way_next, under_way_equation, under_way_reads, under_way_counts}
 use Rattle.linear_view.proofs.ViewLemmas.{products_step}
+use Rattle.linear_view.proofs.WalkLemmas.{keeps_then, keeps_push}
 use Rattle.linear_view.proofs.core_view.product_operands.Goals as goal
 use Rattle.linear_view.proofs.core_view.product_operands.Goals.{in-Some+in_ok-push, in_default}
 
@@ -18,8 +19,8 @@ loop-gate-init c =
       products = c.new-products.ensures.items;
     }
 
-pub pair_of-requires : goal.pair_of-requires
-pair_of-requires c =
+pub pair_of-requires-clause-gate : goal.pair_of-requires-clause-gate
+pair_of-requires-clause-gate c =
     let names = c.args.columns.now.keys in
     let w = c.width-width.result in
     let n = c.inputs-inputs.result in
@@ -29,7 +30,11 @@ pair_of-requires c =
     let held = c.loop-gate.registers.items in
     let last = c.in_ok-last.last.items in
     let are = core_equations c.args.core.now w n gs c.width-width.ensures.core c.width-width.ensures.value c.inputs-inputs.ensures c.requires.gates in
-    (stage.width, under_way_equation names w n gs k (length c.as_slice.result.now) (gate.Const 0) stage last held c.loop-gate-test.true are c.loop-gate.invariant.under_way (ap length c.as_slice.ensures.value))
+    (stage.width, under_way_equation names w n gs k c.loop-gate.registers.len (gate.Const 0) stage last held c.loop-gate-test.true are c.loop-gate.invariant.under_way (omega (arith, c.loop-gate.registers.ok.0)))
+
+pub pair_of-requires-clause-known : goal.pair_of-requires-clause-known
+pair_of-requires-clause-known c =
+    omega (arith, c.loop-gate.registers.ok.0, c.loop-gate.invariant.under_way.holds.count, c.loop-gate-test.true, c.in_ok-last.ensures.count, c.in_ok-last.last.ok.0, ap length c.as_slice.ensures.value)
 
 pub push_register-requires-clause-gate : goal.push_register-requires-clause-gate
 push_register-requires-clause-gate c =
@@ -42,7 +47,8 @@ push_register-requires-clause-gate c =
     let held = c.loop-gate.registers.items in
     let last = c.in_ok-last.last.items in
     let are = core_equations c.args.core.now w n gs c.width-width.ensures.core c.width-width.ensures.value c.inputs-inputs.ensures c.requires.gates in
-    under_way_equation names w n gs k c.loop-gate.registers.len (gate.Const 0) stage last held c.loop-gate-test.true are c.loop-gate.invariant.under_way (omega (arith, c.loop-gate.registers.ok.0))
+    under_way_equation names w n gs k c.pair_of.new.registers.len (gate.Const 0) stage last held c.loop-gate-test.true are c.loop-gate.invariant.under_way
+    (omega (arith, c.pair_of.new.registers.ok.0, c.in_ok-pair.ensures.kept.count))
 
 pub push_register-requires-clause-held : goal.push_register-requires-clause-held
 push_register-requires-clause-held c =
@@ -56,7 +62,7 @@ push_register-requires-clause-held c =
     let last = c.in_ok-last.last.items in
     let are = core_equations c.args.core.now w n gs c.width-width.ensures.core c.width-width.ensures.value c.inputs-inputs.ensures c.requires.gates in
     let late = c.in_ok-last.ensures.late k (get_or gs k (gate.Const 0)) (slice_get-get_or gs k (gate.Const 0) c.loop-gate-test.true) in
-    (all_rows w n gs, under_way_reads names w n gs k (gate.Const 0) stage last held c.loop-gate-test.true are late c.loop-gate.invariant.under_way)
+    (all_rows w n gs, c.in_ok-pair.ensures.needs names (all_rows w n gs) (under_way_reads names w n gs k (gate.Const 0) stage last held c.loop-gate-test.true are late c.loop-gate.invariant.under_way))
 
 pub after-stage-requires-clause-products : goal.after-stage-requires-clause-products
 after-stage-requires-clause-products c =
@@ -80,21 +86,22 @@ loop-gate-preserved c =
     let all = all_rows w n gs in
     let late = c.in_ok-last.ensures.late k (get_or gs k (gate.Const 0)) (slice_get-get_or gs k (gate.Const 0) c.loop-gate-test.true) in
     let read = under_way_reads names w n gs k (gate.Const 0) stage last held c.loop-gate-test.true are late c.loop-gate.invariant.under_way in
-    let keeps = subst
-    (λ (l : List ℕ). KeepsLater l stage.equations (held ++ rows_over names (gate_rows stage.width stage.products stage.refreshes all (get_or gs k (gate.Const 0))) ∷ []) c.push_register.new.registers.items)
-    c.as_slice-in-loop-gate.ensures.value (c.in_ok-push_register.ensures all read) in
-    let next = under_way_next names w n gs k (gate.Const 0) stage c.after-stage.result last held c.push_register.new.registers.items c.loop-gate-test.true are c.loop-gate.invariant.under_way keeps c.after-stage.ensures in
-    let at_slice = subst (λ (l : List (List (List Bool))). HoldsReads names all l (get_or gs k (gate.Const 0))) (sym c.as_slice.ensures.value) read in
+    let made = rows_over names (gate_rows stage.width stage.products stage.refreshes all (get_or gs k (gate.Const 0))) in
+    let taken = subst (λ (l : List ℕ). KeepsLater l stage.equations held c.pair_of.new.registers.items) c.as_slice.ensures.value c.in_ok-pair.ensures.kept in
+    let pushed = subst (λ (l : List ℕ). KeepsLater l stage.equations (c.pair_of.new.registers.items ++ made ∷ []) c.push_register.new.registers.items)
+    c.as_slice-in-loop-gate.ensures.value (c.in_ok-push_register.ensures all (c.in_ok-pair.ensures.needs names all read)) in
+    let next = under_way_next names w n gs k (gate.Const 0) stage c.after-stage.result last held c.push_register.new.registers.items c.loop-gate-test.true are c.loop-gate.invariant.under_way
+    (keeps_then (keeps_push made taken) pushed) c.after-stage.ensures in
     let old = c.loop-gate.products.items in
     record {
       under_way = next;
       products =
-          products_step names all gs k (gate.Const 0) old c.match-branch-4.products.items c.in_ok-pair.field-0 c.loop-gate-test.true c.loop-gate.invariant.products
-          (elim c.match-branch-4.branch [
+          products_step names all gs k (gate.Const 0) old c.match-branch-5.products.items c.in_ok-pair.field-0 c.loop-gate-test.true c.loop-gate.invariant.products
+          (elim c.match-branch-5.branch [
             | in-Some+in_ok-push v ↦
                 ap (λ p. p.items) v.products-is ∙ v.in_ok-push.ensures.items ∙ ap (λ (found : Option Operands). old ++ option_to_list found) (sym v.in-Some.is)
             | in_default v ↦
                 ap (λ p. p.items) v.products-is ∙ sym (append-nil old) ∙ ap (λ (found : Option Operands). old ++ option_to_list found) (sym v.in_default.is)
           ])
-          (c.in_ok-pair.ensures names all at_slice);
+          (c.in_ok-pair.ensures.pair names all read);
     }

@@ -4,6 +4,7 @@ use Rattle.usuba0.specs.declared.circuit.Gate.TheVariants as gate
 use Rattle.linear_view.specs.Rows.{gate_rows, rows_over}
 use Rattle.linear_view.specs.Walk.{KeepsLater}
 use Rattle.linear_view.proofs.CoreLemmas.{all_rows, core_equations, under_way_first, under_way_next, under_way_equation, under_way_reads, under_way_counts, late_wanted}
+use Rattle.linear_view.proofs.RowLemmas.{needs_held}
 use Rattle.linear_view.proofs.core_view.register_rows.Goals as goal
 
 pub loop-gate-init : goal.loop-gate-init
@@ -38,7 +39,7 @@ push_register-requires-clause-held c =
     let late = late_wanted c.in_ok-last.last.items c.args.register.0 (length gs) k (get_or gs k (gate.Const 0)) (omega (arith, c.loop-gate-test.true))
     (omega (arith, c.requires.register, c.in_ok-last.ensures.count, c.in_ok-last.last.ok.0, c.inputs-inputs.ensures, ap length c.requires.gates))
     (c.in_ok-last.ensures.late k (get_or gs k (gate.Const 0)) (slice_get-get_or gs k (gate.Const 0) c.loop-gate-test.true)) in
-    (all_rows w n gs, under_way_reads names w n gs k (gate.Const 0) stage last held c.loop-gate-test.true are late c.loop-gate.invariant)
+    (all_rows w n gs, needs_held names (all_rows w n gs) held (get_or gs k (gate.Const 0)) (under_way_reads names w n gs k (gate.Const 0) stage last held c.loop-gate-test.true are late c.loop-gate.invariant))
 
 pub after-stage-requires-clause-products : goal.after-stage-requires-clause-products
 after-stage-requires-clause-products c =
@@ -63,7 +64,7 @@ loop-gate-preserved c =
     let late = late_wanted c.in_ok-last.last.items c.args.register.0 (length gs) k (get_or gs k (gate.Const 0)) (omega (arith, c.loop-gate-test.true))
     (omega (arith, c.requires.register, c.in_ok-last.ensures.count, c.in_ok-last.last.ok.0, c.inputs-inputs.ensures, ap length c.requires.gates))
     (c.in_ok-last.ensures.late k (get_or gs k (gate.Const 0)) (slice_get-get_or gs k (gate.Const 0) c.loop-gate-test.true)) in
-    let read = under_way_reads names w n gs k (gate.Const 0) stage last held c.loop-gate-test.true are late c.loop-gate.invariant in
+    let read = needs_held names all held (get_or gs k (gate.Const 0)) (under_way_reads names w n gs k (gate.Const 0) stage last held c.loop-gate-test.true are late c.loop-gate.invariant) in
     let keeps = subst
     (λ (l : List ℕ). KeepsLater l stage.equations (held ++ rows_over names (gate_rows stage.width stage.products stage.refreshes all (get_or gs k (gate.Const 0))) ∷ []) c.push_register.new.registers.items)
     c.as_slice.ensures.value (c.in_ok-push_register.ensures all read) in

@@ -1,9 +1,9 @@
-use Rattle.std.proofs.Common.{length, ap, ◌∙◌, arith}
+use Rattle.std.proofs.Common.{length, ap, arith}
 use Rattle.linear_view.proofs.ViewLemmas.{names_of_core, length-core_columns}
 use Rattle.linear_view.proofs.core_view.rows_of.Goals as goal
 
 pub register_rows-requires-clause-few_columns : goal.register_rows-requires-clause-few_columns
 register_rows-requires-clause-few_columns c =
-    let names = names_of_core c.args.core.now c.width.result c.inputs.result c.as_slice.result.now c.in_ok-columns.columns.keys c.in_ok-columns.ensures
-    c.width.ensures.value c.inputs.ensures (c.as_slice.ensures.value ∙ c.in_ok-gates.ensures) in
+    let names = names_of_core c.args.core.now c.width.result c.inputs.result c.equation_slice-gates.result.now c.in_ok-columns.columns.keys c.in_ok-columns.ensures
+    c.width.ensures.value c.inputs.ensures c.equation_slice-gates.ensures.gates in
     omega (arith, ap length names, length-core_columns c.args.core.now, c.requires.columns)

@@ -1,5 +1,5 @@
 -- Spans and words, row by row.
-use Rattle.std.proofs.Common.{◌≡◌, ℕ, ◌+◌, ◌<◌, ◌≤◌, Bool, false, not, List, [], ◌∷◌, ◌++◌, length, get_or, set, map, take, replicate, All, sym, ap, ◌∙◌, subst, inl, inr, arith}
+use Rattle.std.proofs.Common.{◌≡◌, ◌≢◌, ℕ, ◌+◌, ◌-◌, ◌*◌, ◌<◌, ◌≤◌, ltb, if◌then◌else◌, Bool, true, false, not, List, [], ◌∷◌, ◌++◌, length, get_or, set, map, take, replicate, All, sym, ap, ◌∙◌, subst, inl, inr, arith}
 use mathlib.Core.Path.{fun_ext}
 use Rattle.std.proofs.lemmas.Bool.{cases_lt, cases_eq}
 use Rattle.std.proofs.lemmas.List.{take_all, take_more, get_or-replicate, get_or_past, get_or_append_left, get_or-map, length-map, get_or_push, get_or-set_same, get_or-set_other, length_push, length-replicate, map_push}
@@ -41,6 +41,43 @@ module _ {C : Type 0} where
 pub record IsRaising (columns : ℕ) (row : Columns ℕ) (c : ℕ) (word : Columns ℕ) : Type 0 where
   pub below : (d : ℕ) → d < columns + c → word d ≡ raised columns row d
   pub above : (d : ℕ) → columns + c ≤ d → word d ≡ false
+
+raised_high : (n : ℕ) (row : Columns ℕ) (d : ℕ) → n ≤ d → raised n row d ≡ row (d - n)
+raised_high n row d h = ap (λ (b : Bool). if b then false else row (d - n)) (above d n h)
+  where
+    above : (a b : ℕ) → b ≤ a → ltb a b ≡ false
+    above a b h = grind arith
+
+-- one more column of the row
+pub raised_one : (columns start c : ℕ) (row : Columns ℕ) (word : List Bool) → IsRaising columns row start (set_of word) → start ≤ c → c < columns
+    → length word ≡ 2 * columns → row c ≡ true → ((d : ℕ) → start ≤ d → d < c → row d ≡ false)
+    → IsRaising columns row (c + 1) (set_of (set word (columns + c) (not (get_or word (columns + c) false))))
+raised_one columns start c row word is from within wide there none =
+    let at : ℕ = columns + c in
+    let b : Bool = not (get_or word at false) in
+    let on : b ≡ true = ap not (is.above at (omega arith)) in
+    let inside : at < length word = omega arith in
+    let moved : at - columns ≡ c = omega arith in
+    record {
+      below = λ d h. elim (cases_eq d at) [
+        | inl same ↦
+            ap (set_of (set word at b)) same ∙ get_or-set_same word at b false inside ∙ on
+            ∙ sym (ap (raised columns row) same ∙ raised_high columns row at (omega arith) ∙ ap row moved ∙ there)
+        | inr other ↦ get_or-set_other word at d b false other ∙ elim (cases_lt d (columns + start)) [
+          | inl old ↦ is.below d old
+          | inr past ↦ is.above d past ∙ sym (raised_high columns row d (omega arith) ∙ none (d - columns) (omega arith) (omega arith))
+        ]
+      ];
+      above = λ d h. (let other : d ≢ at = λ e. omega arith in get_or-set_other word at d b false other ∙ is.above d (omega arith));
+    }
+
+-- where the row has no more columns, it is moved up
+pub raising_ends : (columns start : ℕ) (row word : Columns ℕ) → IsRaising columns row start word → ((d : ℕ) → start ≤ d → row d ≡ false)
+    → word ≡ raised columns row
+raising_ends columns start row word is none = fun_ext (λ d. elim (cases_lt d (columns + start)) [
+  | inl old ↦ is.below d old
+  | inr past ↦ is.above d past ∙ sym (raised_high columns row d (omega arith) ∙ none (d - columns) (omega arith))
+])
 
 none_set : (n d : ℕ) → set_of (replicate n false) d ≡ false
 none_set n d = elim (cases_lt d n) [

@@ -16,10 +16,10 @@ fn raise(alloc: Global, row: &BitRow) -> Result<BitRow, AllocError>
 {
     let columns = row.columns();
     let mut word = BitRow::new(alloc, 2 * columns)?;
-    for c in 0..columns {
-        if row.has(c) {
-            word.flip(columns + c);
-        }
+    let mut start = 0;
+    while let Some(c) = row.first_from(start) {
+        word.flip(columns + c);
+        start = c + 1;
     }
     Ok(word)
 }

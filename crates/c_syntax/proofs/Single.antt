@@ -1,15 +1,16 @@
--- Bytes spell one file at most, and then their syntax is not at fault.
-use Rattle.std.proofs.Common.{◌≡◌, ◌<◌, ◌≤◌, ◌+◌, inl, inr, ℕ, List, length, take, drop, get_or, sym, ◌∙◌, subst, arith, take-append-drop}
+-- Bytes spell one file at most, and then their syntax is not at fault; else it is at fault at one place.
+use Rattle.std.proofs.Common.{◌≡◌, ◌<◌, ◌≤◌, ◌+◌, inl, inr, ℕ, zero, suc, List, [], ◌∷◌, ◌++◌, length, take, drop, get_or, refl, sym, ap, ◌∙◌, subst, arith, append_assoc, take-append-drop}
 use Rattle.std.specs.Prelude.{All}
 use Rattle.std.proofs.lemmas.Bool.{cases_lt}
 use Rattle.std.proofs.lemmas.List.{get_or-take, get_or_past}
 use Rattle.std.proofs.lemmas.List.Elements.{All-get_or}
 use Rattle.ll_reader.specs.Depth.{token_depths}
-use Rattle.ll_reader.specs.Derivation.{IsText}
+use Rattle.ll_reader.specs.Derivation.{IsText, BeginsText}
 use Rattle.ll_reader.specs.declared.grammar.Step.{Step}
 use Rattle.tor_edge.specs.declared.place.Place.{Place}
+use Rattle.usuba_tokens.specs.Tokens.{start, place_after}
 use Rattle.c_grammar.specs.Classes.{classes_of}
-use Rattle.c_grammar.specs.Grammar.{AreDerived, IsStop}
+use Rattle.c_grammar.specs.Grammar.{AreDerived, IsStop, place_at}
 use Rattle.c_grammar.specs.declared.table.TheConstants.{PRODUCTIONS, FRAME}
 use Rattle.c_subset.specs.Files.{IsFile}
 use Rattle.c_syntax.specs.Syntax as syntax
@@ -82,3 +83,75 @@ never_both once derived bytes f place x (inr token) =
     let made = derived x.bits x.found f x.end x.is in
     not_stopped x.found (ending.End x.end) made.0 token.k made.1
     (subst (λ (e : Ending). IsStop x.found e token.k) (sym same.2) (subst (λ (ts : List Token). IsStop ts token.end token.k) (sym same.1) token.stop))
+
+-- ---- one place at most
+
+-- the first classes are part of more of them
+longer : (i j : ℕ) (classes : List ℕ) → i ≤ j → (more : List ℕ) × (take i classes ++ more ≡ take j classes)
+longer zero j classes l = (take j classes, refl)
+longer (suc i) zero classes l = absurd (omega arith)
+longer (suc i) (suc j) [] l = ([], refl)
+longer (suc i) (suc j) (c ∷ classes) l =
+    let rest = longer i j classes (omega (arith, l)) in (rest.0, ap (λ (cs : List ℕ). c ∷ cs) rest.1)
+
+-- a text that goes on from more classes goes on from fewer
+text_from : (i j : ℕ) (classes rest : List ℕ) (steps : List Step) → i ≤ j → IsText PRODUCTIONS FRAME (take j classes ++ rest) steps
+    → (more : List ℕ) × IsText PRODUCTIONS FRAME (take i classes ++ more) steps
+text_from i j classes rest steps l text =
+    let part = longer i j classes l in
+    let whole : take j classes ++ rest ≡ take i classes ++ (part.0 ++ rest) =
+    ap (λ (cs : List ℕ). cs ++ rest) (sym part.1) ∙ append_assoc (take i classes) part.0 rest in
+    (part.0 ++ rest, subst (λ (cs : List ℕ). IsText PRODUCTIONS FRAME cs steps) whole text)
+
+-- classes that begin a text begin one with fewer of them
+begins_less : (i j : ℕ) (classes : List ℕ) → i ≤ j → BeginsText PRODUCTIONS FRAME (take j classes) → BeginsText PRODUCTIONS FRAME (take i classes)
+begins_less i j classes l begins =
+    let text = text_from i j classes begins.0 begins.1 l begins.2 in (text.0, begins.1, text.1)
+
+-- tokens do not stop at two places
+no_later : (tokens : List Token) (end : Ending) (i j : ℕ) → i < j → IsStop tokens end i → IsStop tokens end j → ⊥
+no_later tokens end i j below (inl x) (inl y) = x.here (begins_less (i + 1) j (classes_of tokens end) (omega (arith, below)) y.before)
+no_later tokens end i j below (inl x) (inr y) =
+    x.here (begins_less (i + 1) (j + 1) (classes_of tokens end) (omega (arith, below)) y.begins)
+no_later tokens end i j below (inr x) (inl y) =
+    let begins = y.before in
+    let text = text_from (i + 1) j (classes_of tokens end) begins.0 begins.1 (omega (arith, below)) begins.2 in
+    let deep = x.deep text.0 begins.1 text.1 in
+    let shallow = within_at (token_depths PRODUCTIONS FRAME begins.1) j i below (y.shallow begins.0 begins.1 begins.2) in
+    absurd (omega (arith, deep, shallow))
+no_later tokens end i j below (inr x) (inr y) =
+    let begins = y.begins in
+    let text = text_from (i + 1) (j + 1) (classes_of tokens end) begins.0 begins.1 (omega (arith, below)) begins.2 in
+    let deep = x.deep text.0 begins.1 text.1 in
+    let shallow = within_at (token_depths PRODUCTIONS FRAME begins.1) j i below (y.shallow begins.0 begins.1 begins.2) in
+    absurd (omega (arith, deep, shallow))
+
+one_stop : (tokens : List Token) (end : Ending) (i j : ℕ) → IsStop tokens end i → IsStop tokens end j → i ≡ j
+one_stop tokens end i j x y = elim (cases_lt i j) [
+  | inl below ↦ absurd (no_later tokens end i j below x y)
+  | inr least ↦ (elim (cases_lt j i) [
+    | inl below ↦ absurd (no_later tokens end j i below y x)
+    | inr most ↦ omega (arith, least, most)
+  ])
+]
+
+-- the syntax of bytes is at fault at one place at most
+pub one_place : OneSpelling → (bytes : List ℕ) (first second : Place) → syntax.IsSyntaxFault bytes first → syntax.IsSyntaxFault bytes second → first ≡ second
+one_place once bytes first second (inl x) (inl y) =
+    let wrong : Wrong x.n ≡ Wrong y.n = sym x.wrong ∙ y.wrong in
+    let count : x.n ≡ y.n = cc in
+    x.at ∙ ap (λ (n : ℕ). place_after start (take n bytes)) count ∙ sym y.at
+one_place once bytes first second (inl x) (inr y) =
+    let lines : Wrong x.n ≡ Lines y.bits y.spelled.n = sym x.wrong ∙ y.spelled.lines in absurd (cc)
+one_place once bytes first second (inr x) (inl y) =
+    let lines : Lines x.bits x.spelled.n ≡ Wrong y.n = sym x.spelled.lines ∙ y.wrong in absurd (cc)
+one_place once bytes first second (inr x) (inr y) =
+    let same = same_spelled once bytes x.bits y.bits x.found y.found x.end y.end x.spelled y.spelled in
+    let stop : IsStop x.found x.end y.k =
+    subst (λ (e : Ending). IsStop x.found e y.k) (sym same.2) (subst (λ (ts : List Token). IsStop ts y.end y.k) (sym same.1) y.stop) in
+    let k : x.k ≡ y.k = one_stop x.found x.end x.k y.k x.stop stop in
+    x.at
+    ∙ ap (place_at x.found x.end) k
+    ∙ ap (λ (e : Ending). place_at x.found e y.k) same.2
+    ∙ ap (λ (ts : List Token). place_at ts y.end y.k) same.1
+    ∙ sym y.at

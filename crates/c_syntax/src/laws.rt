@@ -27,3 +27,11 @@ pub fn one_source()
     one_file();
     files_are_derived();
 }
+
+/// The syntax of bytes is at fault at one place at most.
+pub fn one_place()
+    ensures { (bytes : List ℕ) (first second : Place) → IsSyntaxFault bytes first → IsSyntaxFault bytes second
+        → first ≡ second }
+{
+    one_spelling();
+}

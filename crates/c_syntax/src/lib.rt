@@ -4,5 +4,5 @@
 mod laws;
 mod read;
 
-pub use laws::{file_or_fault, one_source};
+pub use laws::{file_or_fault, one_place, one_source};
 pub use read::{Spelled, SyntaxFault, read_tokens};

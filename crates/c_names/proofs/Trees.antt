@@ -1,6 +1,5 @@
 -- The names of an expression with two operands, and of a loop.
-use Rattle.std.proofs.Common.{◌≡◌, ℕ, Bool, List, ◌++◌, map, take, length, sym, ap, ◌∙◌}
-use Rattle.std.proofs.lemmas.List.{take-map, length-map}
+use Rattle.std.proofs.Common.{◌≡◌, ℕ, Bool, List, ◌++◌, map, sym, ap, ◌∙◌}
 use Rattle.c_tree.specs.declared.CExpr.{CExpr, fold-roll-CExpr}
 use Rattle.c_tree.specs.declared.CExpr.TheOpen.{CExpr-F}
 use Rattle.c_tree.specs.declared.CExpr.TheVariants as e
@@ -11,8 +10,6 @@ use Rattle.c_tree.specs.declared.CStmt.TheOpen.{CStmt-F}
 use Rattle.c_tree.specs.declared.CStmt.TheVariants as s
 use Rattle.c_names.specs.Names.{Checked, expression_level, expression_names, head_names, all_checked, checked, statement_level, with_name}
 use Rattle.c_names.specs.Scope.{InScope}
-use Rattle.c_names.specs.State.Scopes.{known_of, scope_of}
-use Rattle.c_names.specs.declared.scope.Known.{Known}
 use Rattle.c_names.specs.declared.scope.Role.TheVariants.{Counter}
 
 pub two_names : (op : COp) (left right : CExpr) (scope : List InScope) → expression_names (e.Two op left right) scope ≡ expression_names left scope ++ expression_names right scope
@@ -25,7 +22,3 @@ pub loop_names : (counter : List ℕ) (low : CLow) (body : List CStmt) (scope : 
 loop_names counter low body scope =
     ap (λ (f : List InScope → Checked). (f scope).names)
     (ap checked (sym (s.rolls-For counter low body)) ∙ fold-roll-CStmt (List InScope → Checked) statement_level (CStmt-F.For counter low body))
-
--- the names that were in scope before are the first ones
-pub scope_before : (before : List Known) (names : List Known) → scope_of (take (length before) names) ≡ take (length (scope_of before)) (scope_of names)
-scope_before before names = sym (ap (λ n. take n (scope_of names)) (length-map before known_of) ∙ take-map known_of (length before) names)

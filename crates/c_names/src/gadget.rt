@@ -1,63 +1,75 @@
 //! The names of gadgets and of their calls.
-ghost use Rattle.std.specs.Prelude.{◌≡◌, ◌∷◌, [], not, is_some, OnOk, option_copied, map, vec_items};
+ghost use Rattle.std.specs.Prelude.{◌≡◌, ◌∷◌, [], ◌++◌, ℕ, List, not, is_some, OnOk, option_copied, map};
+ghost use Rattle.std.specs.Option.{option_or};
 ghost use Rattle.c_names.specs.Scope as scopes;
 ghost use Rattle.c_names.specs.Names as spec;
 ghost use Rattle.c_names.specs.State.Answers.{IsPassed, passed};
-ghost use Rattle.c_names.specs.State.Scopes.{scope_of};
+ghost use Rattle.c_names.specs.State.Gadgets.{fits_by, gadget_at};
 
 use crate::fault::NameFault;
 use crate::places::Places;
-use crate::scope::{Known, Role, add_name, is_new};
+use crate::scope::{Role, Scope};
 use crate::statement::check_all;
 use c_tree::{CArg, CCall, CFun, CParam};
-use std::alloc::Global;
+use std::alloc::{AllocError, Global};
+use std::collections::HashMap;
 use tor_edge::Name;
 
-/// The gadget of a name.
-fn gadget_called<'f>(gadgets: &'f [CFun], name: &Name) -> Option<&'f CFun>
-    ensures { option_copied result ≡ spec.gadget_called gadgets.now name.now }
+/// The first gadget of each name.
+pub(crate) type Gadgets<'f> = HashMap<&'f str, &'f CFun>;
+
+/// Keeps a gadget under its name, if that has none yet.
+pub(crate) fn keep_gadget<'f>(found: &mut Gadgets<'f>, gadget: &'f CFun) -> Result<(), AllocError>
+    ensures { OnOk result ((name : List ℕ) → gadget_at found.new name
+        ≡ option_or (gadget_at found.old name) (spec.gadget_called (gadget.now ∷ []) name)) }
 {
-    for gadget in gadgets {
-        if gadget.name.as_str() == name.as_str() {
-            return Some(gadget);
-        }
+    let name = gadget.name.as_str();
+    if found.contains_key(name) {
+        return Ok(());
     }
-    None
+    match found.insert(name, gadget) {
+        Ok(_) => Ok(()),
+        Err(_) => Err(AllocError),
+    }
 }
 
-fn is_new_gadget(earlier: &[CFun], name: &Name) -> bool
-    ensures { result ≡ not (is_some (spec.gadget_called earlier.now name.now)) }
+fn gadget_called<'f>(found: &Gadgets<'f>, name: &Name) -> Option<&'f CFun>
+    ensures { option_copied result ≡ gadget_at found.now name.now }
 {
-    gadget_called(earlier, name).is_none()
+    found.get(name.as_str()).copied()
+}
+
+fn is_new_gadget(found: &Gadgets<'_>, name: &Name) -> bool
+    ensures { result ≡ not (is_some (gadget_at found.now name.now)) }
+{
+    gadget_called(found, name).is_none()
 }
 
 // A name that is declared, and comes into scope.
 fn declare<'a>(
     name: &'a Name,
     role: Role,
-    scope: &mut Vec<Known<'a>>,
+    scope: &mut Scope<'a>,
     places: &mut Places<'_>,
 ) -> Result<(), NameFault>
-    ensures names { IsPassed (passed (scopes.is_new (scopes.role_of (scope_of (vec_items scope.old)) name.now) ∷ [])
+    ensures names { IsPassed (passed (scopes.is_new (scopes.role_of scope.old name.now) ∷ [])
         places.old.left.now) result places.new.left.now }
-    ensures scope { OnOk result
-        (scope_of (vec_items scope.new) ≡ spec.with_name (scope_of (vec_items scope.old)) name.now role) }
+    ensures scope { OnOk result (scope.new ≡ spec.with_name scope.old name.now role) }
 {
-    places.pass(is_new(scope.as_slice(), name))?;
-    add_name(scope, name, role)?;
+    places.pass(scope.is_new(name))?;
+    scope.add(name, role)?;
     Ok(())
 }
 
 // A parameter, which comes into scope.
 fn check_parameter<'a>(
     parameter: &'a CParam,
-    scope: &mut Vec<Known<'a>>,
+    scope: &mut Scope<'a>,
     places: &mut Places<'_>,
 ) -> Result<(), NameFault>
-    ensures names { IsPassed (passed (spec.parameter_checked parameter.now
-        (scope_of (vec_items scope.old))).names places.old.left.now) result places.new.left.now }
-    ensures scope { OnOk result (scope_of (vec_items scope.new)
-        ≡ (spec.parameter_checked parameter.now (scope_of (vec_items scope.old))).scope) }
+    ensures names { IsPassed (passed (spec.parameter_checked parameter.now scope.old).names places.old.left.now) result
+        places.new.left.now }
+    ensures scope { OnOk result (scope.new ≡ (spec.parameter_checked parameter.now scope.old).scope) }
 {
     match parameter {
         CParam::Array(name) => declare(name, Role::Array, scope, places),
@@ -67,13 +79,13 @@ fn check_parameter<'a>(
 
 fn check_parameters<'a>(
     parameters: &'a [CParam],
-    scope: &mut Vec<Known<'a>>,
+    scope: &mut Scope<'a>,
     places: &mut Places<'_>,
 ) -> Result<(), NameFault>
-    ensures names { IsPassed (passed (spec.all_checked (map spec.parameter_checked parameters.now)
-        (scope_of (vec_items scope.old))).names places.old.left.now) result places.new.left.now }
-    ensures scope { OnOk result (scope_of (vec_items scope.new)
-        ≡ (spec.all_checked (map spec.parameter_checked parameters.now) (scope_of (vec_items scope.old))).scope) }
+    ensures names { IsPassed (passed (spec.all_checked (map spec.parameter_checked parameters.now) scope.old).names
+        places.old.left.now) result places.new.left.now }
+    ensures scope { OnOk result
+        (scope.new ≡ (spec.all_checked (map spec.parameter_checked parameters.now) scope.old).scope) }
 {
     for parameter in parameters {
         check_parameter(parameter, scope, places)?;
@@ -85,22 +97,22 @@ fn check_parameters<'a>(
 fn check_inner(alloc: Global, gadget: &CFun, places: &mut Places<'_>) -> Result<(), NameFault>
     ensures { IsPassed (passed (spec.inner_names gadget.now) places.old.left.now) result places.new.left.now }
 {
-    let mut scope = Vec::new(alloc);
+    let mut scope = Scope::new(alloc);
     check_parameters(gadget.params.as_slice(), &mut scope, places)?;
     check_all(gadget.body.as_slice(), &mut scope, places)
 }
 
-/// A gadget that stands behind these.
+/// A gadget that stands behind those that were found.
 pub(crate) fn check_gadget(
     alloc: Global,
-    earlier: &[CFun],
+    found: &Gadgets<'_>,
     gadget: &CFun,
     places: &mut Places<'_>,
 ) -> Result<(), NameFault>
-    ensures { IsPassed (passed (spec.gadget_names earlier.now gadget.now) places.old.left.now) result
-        places.new.left.now }
+    ensures { let new = not (is_some (gadget_at found.now gadget.now.name)) in IsPassed
+        (passed ((new ∷ []) ++ spec.inner_names gadget.now) places.old.left.now) result places.new.left.now }
 {
-    places.pass(is_new_gadget(earlier, &gadget.name))?;
+    places.pass(is_new_gadget(found, &gadget.name))?;
     check_inner(alloc, gadget, places)
 }
 
@@ -136,10 +148,10 @@ fn take_all(mut parameters: &[CParam], mut arguments: &[CArg]) -> bool
 }
 
 /// Whether a call names a gadget, and its arguments fit.
-pub(crate) fn call_is_right(gadgets: &[CFun], call: &CCall) -> bool
-    ensures { result ≡ spec.call_is_right gadgets.now call.now }
+pub(crate) fn call_is_right(found: &Gadgets<'_>, call: &CCall) -> bool
+    ensures { result ≡ fits_by (gadget_at found.now) call.now }
 {
-    match gadget_called(gadgets, &call.gadget) {
+    match gadget_called(found, &call.gadget) {
         Some(gadget) => take_all(gadget.params.as_slice(), call.args.as_slice()),
         None => false,
     }

@@ -1,10 +1,12 @@
 //! The names in scope.
-ghost use Rattle.std.specs.Prelude.{◌≡◌, OnOk, vec_items};
+ghost use Rattle.std.specs.Prelude.{◌≡◌, [], ◌-◌, OnOk, length, take};
 ghost use Rattle.c_names.specs.Names.{with_name};
 ghost use Rattle.c_names.specs.Scope as spec;
-ghost use Rattle.c_names.specs.State.Scopes.{scope_of};
+ghost use Rattle.c_names.specs.State.Scopes.{found_at, stands_at};
 
-use std::alloc::AllocError;
+use std::alloc::{AllocError, Global};
+use std::collections::HashMap;
+use std::marker::Model;
 use tor_edge::Name;
 
 /// What a name in scope is.
@@ -24,54 +26,129 @@ pub(crate) struct Known<'a> {
     pub(crate) role: Role,
 }
 
-/// A name comes into scope.
-pub(crate) fn add_name<'a>(
-    scope: &mut Vec<Known<'a>>,
-    name: &'a Name,
-    role: Role,
-) -> Result<(), AllocError>
-    ensures { OnOk result (scope_of (vec_items scope.new) ≡ with_name (scope_of (vec_items scope.old)) name.now role) }
-{
-    scope.push(Known {
-        name: name.as_str(),
-        role,
-    })?;
-    Ok(())
+/// The first name in scope of one spelling: how many stand before it, and what it is.
+#[derive(Clone, Copy, Drop)]
+pub(crate) struct First {
+    pub(crate) place: usize,
+    pub(crate) role: Role,
 }
 
-// What a name is, where it is in scope.
-fn role_of(scope: &[Known<'_>], name: &Name) -> Option<Role>
-    ensures { result ≡ spec.role_of (scope_of scope.now) name.now }
+/// The names in scope, the latest last.
+#[derive(Drop)]
+pub(crate) struct Scope<'a> {
+    known: Vec<Known<'a>>,
+    first: HashMap<&'a str, First>,
+}
+
+impl<'a> Model for Scope<'a> {
+    ghost use Rattle.std.specs.Prelude.{◌≡◌, ℕ, List};
+    ghost use Rattle.c_names.specs.Scope.{InScope};
+    ghost use Rattle.c_names.specs.State.Scopes.{found_at, found_from, scope_of};
+
+    ghost Value = { List InScope };
+
+    ghost view = { λ s. scope_of s.known.items };
+
+    ghost invariant = { λ s. (name : List ℕ) → found_at s.first name ≡ found_from 0 (scope_of s.known.items) name };
+}
+
+// Whether the first name of a spelling has so many before it.
+fn is_first(first: &HashMap<&str, First>, name: &str, place: usize) -> bool
+    ensures { result ≡ stands_at place (found_at first.now name.now) }
 {
-    for known in scope {
-        if known.name == name.as_str() {
-            return Some(known.role);
+    match first.get(name).copied() {
+        Some(found) => found.place == place,
+        None => false,
+    }
+}
+
+impl<'a> Scope<'a> {
+    pub(crate) fn new(alloc: Global) -> Scope<'a>
+        ensures { result ≡ [] }
+    {
+        Scope {
+            known: Vec::new(alloc),
+            first: HashMap::new(alloc),
         }
     }
-    None
-}
 
-pub(crate) fn is_array(scope: &[Known<'_>], name: &Name) -> bool
-    ensures { result ≡ spec.is_array (spec.role_of (scope_of scope.now) name.now) }
-{
-    matches!(role_of(scope, name), Some(Role::Array))
-}
+    /// A name comes into scope.
+    pub(crate) fn add(&mut self, name: &'a Name, role: Role) -> Result<(), AllocError>
+        ensures { OnOk result (self.new ≡ with_name self.old name.now role) }
+    {
+        let name = name.as_str();
+        let place = self.known.len();
+        self.known.push(Known { name, role })?;
+        if self.first.contains_key(name) {
+            return Ok(());
+        }
+        match self.first.insert(name, First { place, role }) {
+            Ok(_) => Ok(()),
+            Err(_) => {
+                let _ = self.known.pop();
+                Err(AllocError)
+            }
+        }
+    }
 
-pub(crate) fn is_word(scope: &[Known<'_>], name: &Name) -> bool
-    ensures { result ≡ spec.is_word (spec.role_of (scope_of scope.now) name.now) }
-{
-    matches!(role_of(scope, name), Some(Role::Word))
-}
+    pub(crate) fn len(&self) -> usize
+        ensures { result ≡ length self.now }
+    {
+        self.known.len()
+    }
 
-pub(crate) fn is_counter(scope: &[Known<'_>], name: &Name) -> bool
-    ensures { result ≡ spec.is_counter (spec.role_of (scope_of scope.now) name.now) }
-{
-    matches!(role_of(scope, name), Some(Role::Counter))
-}
+    // The latest name goes out of scope.
+    fn forget_latest(&mut self)
+        ensures { self.new ≡ take (length self.old - 1) self.old }
+    {
+        if let Some(latest) = self.known.pop() {
+            if is_first(&self.first, latest.name, self.known.len()) {
+                let _ = self.first.remove(latest.name);
+            }
+        }
+    }
 
-/// Whether a name is not in scope.
-pub(crate) fn is_new(scope: &[Known<'_>], name: &Name) -> bool
-    ensures { result ≡ spec.is_new (spec.role_of (scope_of scope.now) name.now) }
-{
-    role_of(scope, name).is_none()
+    /// All but the first `count` names go out of scope.
+    pub(crate) fn truncate(&mut self, count: usize)
+        ensures { self.new ≡ take count self.old }
+    {
+        while count < self.known.len() {
+            self.forget_latest();
+        }
+    }
+
+    // What a name is, where it is in scope.
+    fn role_of(&self, name: &Name) -> Option<Role>
+        ensures { result ≡ spec.role_of self.now name.now }
+    {
+        match self.first.get(name.as_str()).copied() {
+            Some(found) => Some(found.role),
+            None => None,
+        }
+    }
+
+    pub(crate) fn is_array(&self, name: &Name) -> bool
+        ensures { result ≡ spec.is_array (spec.role_of self.now name.now) }
+    {
+        matches!(self.role_of(name), Some(Role::Array))
+    }
+
+    pub(crate) fn is_word(&self, name: &Name) -> bool
+        ensures { result ≡ spec.is_word (spec.role_of self.now name.now) }
+    {
+        matches!(self.role_of(name), Some(Role::Word))
+    }
+
+    pub(crate) fn is_counter(&self, name: &Name) -> bool
+        ensures { result ≡ spec.is_counter (spec.role_of self.now name.now) }
+    {
+        matches!(self.role_of(name), Some(Role::Counter))
+    }
+
+    /// Whether a name is not in scope.
+    pub(crate) fn is_new(&self, name: &Name) -> bool
+        ensures { result ≡ spec.is_new (spec.role_of self.now name.now) }
+    {
+        self.role_of(name).is_none()
+    }
 }

@@ -1,15 +1,14 @@
 //! The names of statements.
-ghost use Rattle.std.specs.Prelude.{◌≡◌, ◌++◌, ◌∷◌, [], OnOk, map, take, length, vec_items};
+ghost use Rattle.std.specs.Prelude.{◌≡◌, ◌++◌, ◌∷◌, [], OnOk, map, take, length};
 ghost use Rattle.c_names.specs.Names as spec;
 ghost use Rattle.c_names.specs.Scope as scopes;
 ghost use Rattle.c_names.specs.State.Answers.{IsPassed, passed};
-ghost use Rattle.c_names.specs.State.Scopes.{scope_of};
 ghost use Rattle.c_names.specs.declared.scope.Role.TheVariants as role;
 
 use crate::expression::{check_expression, check_index, check_low};
 use crate::fault::NameFault;
 use crate::places::Places;
-use crate::scope::{Known, Role, add_name, is_array, is_new};
+use crate::scope::{Role, Scope};
 use c_tree::{CExpr, CIndex, CLow, CStmt};
 use tor_edge::Name;
 
@@ -18,15 +17,14 @@ fn check_assignment(
     array: &Name,
     index: &CIndex,
     value: &CExpr,
-    scope: &[Known<'_>],
+    scope: &Scope<'_>,
     places: &mut Places<'_>,
 ) -> Result<(), NameFault>
-    ensures { let known = scope_of scope.now in IsPassed
-        (passed ((scopes.is_array (scopes.role_of known array.now) ∷ [])
-        ++ (spec.index_names known index.now ++ spec.expression_names value.now known)) places.old.left.now)
+    ensures { IsPassed (passed ((scopes.is_array (scopes.role_of scope.now array.now) ∷ [])
+        ++ (spec.index_names scope.now index.now ++ spec.expression_names value.now scope.now)) places.old.left.now)
         result places.new.left.now }
 {
-    places.pass(is_array(scope, array))?;
+    places.pass(scope.is_array(array))?;
     check_index(index, scope, places)?;
     check_expression(value, scope, places)
 }
@@ -35,19 +33,16 @@ fn check_assignment(
 fn check_declaration<'a>(
     name: &'a Name,
     value: &CExpr,
-    scope: &mut Vec<Known<'a>>,
+    scope: &mut Scope<'a>,
     places: &mut Places<'_>,
 ) -> Result<(), NameFault>
-    ensures names { let known = scope_of (vec_items scope.old) in IsPassed
-        (passed ((scopes.is_new (scopes.role_of known name.now) ∷ []) ++ spec.expression_names value.now known)
-        places.old.left.now)
-        result places.new.left.now }
-    ensures scope { OnOk result
-        (scope_of (vec_items scope.new) ≡ spec.with_name (scope_of (vec_items scope.old)) name.now role.Word) }
+    ensures names { IsPassed (passed ((scopes.is_new (scopes.role_of scope.old name.now) ∷ [])
+        ++ spec.expression_names value.now scope.old) places.old.left.now) result places.new.left.now }
+    ensures scope { OnOk result (scope.new ≡ spec.with_name scope.old name.now role.Word) }
 {
-    places.pass(is_new(scope.as_slice(), name))?;
-    check_expression(value, scope.as_slice(), places)?;
-    add_name(scope, name, Role::Word)?;
+    places.pass(scope.is_new(name))?;
+    check_expression(value, scope, places)?;
+    scope.add(name, Role::Word)?;
     Ok(())
 }
 
@@ -55,13 +50,13 @@ fn check_declaration<'a>(
 fn check_head(
     counter: &Name,
     low: &CLow,
-    scope: &[Known<'_>],
+    scope: &Scope<'_>,
     places: &mut Places<'_>,
 ) -> Result<(), NameFault>
-    ensures { IsPassed (passed (spec.head_names (scope_of scope.now) counter.now low.now) places.old.left.now) result
+    ensures { IsPassed (passed (spec.head_names scope.now counter.now low.now) places.old.left.now) result
         places.new.left.now }
 {
-    places.pass(is_new(scope, counter))?;
+    places.pass(scope.is_new(counter))?;
     check_low(low, scope, places)?;
     places.pass(true)?;
     places.pass(true)
@@ -71,13 +66,12 @@ fn check_head(
 #[cycle(statements)]
 pub(crate) fn check_all<'a>(
     statements: &'a [CStmt],
-    scope: &mut Vec<Known<'a>>,
+    scope: &mut Scope<'a>,
     places: &mut Places<'_>,
 ) -> Result<(), NameFault>
-    ensures names { IsPassed (passed (spec.all_checked (map spec.checked statements.now)
-        (scope_of (vec_items scope.old))).names places.old.left.now) result places.new.left.now }
-    ensures scope { OnOk result (scope_of (vec_items scope.new)
-        ≡ (spec.all_checked (map spec.checked statements.now) (scope_of (vec_items scope.old))).scope) }
+    ensures names { IsPassed (passed (spec.all_checked (map spec.checked statements.now) scope.old).names
+        places.old.left.now) result places.new.left.now }
+    ensures scope { OnOk result (scope.new ≡ (spec.all_checked (map spec.checked statements.now) scope.old).scope) }
 {
     for statement in statements {
         check_statement(statement, scope, places)?;
@@ -88,24 +82,22 @@ pub(crate) fn check_all<'a>(
 #[cycle(statements)]
 fn check_statement<'a>(
     statement: &'a CStmt,
-    scope: &mut Vec<Known<'a>>,
+    scope: &mut Scope<'a>,
     places: &mut Places<'_>,
 ) -> Result<(), NameFault>
-    ensures names { IsPassed
-        (passed (spec.checked statement.now (scope_of (vec_items scope.old))).names places.old.left.now) result
+    ensures names { IsPassed (passed (spec.checked statement.now scope.old).names places.old.left.now) result
         places.new.left.now }
-    ensures scope { OnOk result (scope_of (vec_items scope.new)
-        ≡ (spec.checked statement.now (scope_of (vec_items scope.old))).scope) }
+    ensures scope { OnOk result (scope.new ≡ (spec.checked statement.now scope.old).scope) }
 {
     match statement {
         CStmt::Assign {
             array,
             index,
             value,
-        } => check_assignment(array, index, value, scope.as_slice(), places),
+        } => check_assignment(array, index, value, scope, places),
         CStmt::Let { name, value } => check_declaration(name, value, scope, places),
         CStmt::For { counter, low, body } => {
-            check_head(counter, low, scope.as_slice(), places)?;
+            check_head(counter, low, scope, places)?;
             check_body(counter, body.as_slice(), scope, places)
         }
     }
@@ -116,18 +108,17 @@ fn check_statement<'a>(
 fn check_body<'a>(
     counter: &'a Name,
     body: &'a [CStmt],
-    scope: &mut Vec<Known<'a>>,
+    scope: &mut Scope<'a>,
     places: &mut Places<'_>,
 ) -> Result<(), NameFault>
     ensures names { IsPassed (passed (spec.all_checked (map spec.checked body.now)
-        (spec.with_name (scope_of (vec_items scope.old)) counter.now role.Counter)).names places.old.left.now) result
+        (spec.with_name scope.old counter.now role.Counter)).names places.old.left.now) result
         places.new.left.now }
-    ensures scope { let before = scope_of (vec_items scope.old) in OnOk result (scope_of (vec_items scope.new)
-        ≡ take (length before) (spec.all_checked (map spec.checked body.now)
-        (spec.with_name before counter.now role.Counter)).scope) }
+    ensures scope { OnOk result (scope.new ≡ take (length scope.old)
+        (spec.all_checked (map spec.checked body.now) (spec.with_name scope.old counter.now role.Counter)).scope) }
 {
-    let before = scope.as_slice().len();
-    add_name(scope, counter, Role::Counter)?;
+    let before = scope.len();
+    scope.add(counter, Role::Counter)?;
     check_all(body, scope, places)?;
     scope.truncate(before);
     Ok(())

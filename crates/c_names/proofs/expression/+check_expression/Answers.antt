@@ -2,14 +2,13 @@ use Rattle.std.proofs.Common.{◌≡◌, ◌++◌, ap, sym, subst, ◌∙◌}
 use Rattle.c_tree.specs.declared.CExpr.{CExpr}
 use Rattle.c_names.specs.Names as spec
 use Rattle.c_names.specs.State.Answers.{IsPassed, passed}
-use Rattle.c_names.specs.State.Scopes.{scope_of}
 use Rattle.c_names.proofs.Passing.{not_passed, then_passed}
 use Rattle.c_names.proofs.Trees.{two_names}
 use Rattle.c_names.proofs.expression.+check_expression.Goals as goal
 
 pub returns-in_err-check_expression-in-Two : goal.returns-in_err-check_expression-in-Two
 returns-in_err-check_expression-in-Two t c =
-    let scope = scope_of c.args.scope.now in
+    let scope = c.args.scope.now in
     let places = c.args.places.now.left.now in
     let same : spec.expression_names c.args.expression.now scope ≡ spec.expression_names c.get.result.now scope ++ spec.expression_names c.in-Two.right scope =
     ap (λ (x : CExpr). spec.expression_names x scope) c.in-Two.is
@@ -22,7 +21,7 @@ returns-in_err-check_expression-in-Two t c =
 
 pub returns-in_ok-check_expression-in-Two : goal.returns-in_ok-check_expression-in-Two
 returns-in_ok-check_expression-in-Two t c =
-    let scope = scope_of c.args.scope.now in
+    let scope = c.args.scope.now in
     let places = c.args.places.now.left.now in
     let left = c.check_expression-in-Two.new.places.left.now in
     let same : spec.expression_names c.args.expression.now scope ≡ spec.expression_names c.get.result.now scope ++ spec.expression_names c.get-in-Two.result.now scope =

@@ -1,13 +1,12 @@
 use Rattle.std.proofs.Common.{Bool, [], ◌∷◌, ◌++◌, subst}
 use Rattle.c_names.specs.Names as spec
 use Rattle.c_names.specs.State.Answers.{IsPassed, passed}
-use Rattle.c_names.specs.State.Scopes.{scope_of}
 use Rattle.c_names.proofs.Passing.{then_passed}
 use Rattle.c_names.proofs.statement.check_assignment.Goals as goal
 
 pub returns : goal.returns
 returns c =
-    let scope = scope_of c.args.scope.now in
+    let scope = c.args.scope.now in
     let index = spec.index_names scope c.args.index.now in
     let value = spec.expression_names c.args.value.now scope in
     let left = c.check_expression.new.places.left.now in

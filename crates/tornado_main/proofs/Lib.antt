@@ -18,3 +18,5 @@ pub mod InputsLemmas
 pub mod RunDataLemmas
 pub mod RunCLemmas
 pub mod RunTextLemmas
+pub mod OutcomeLemmas
+pub mod HavingLemmas

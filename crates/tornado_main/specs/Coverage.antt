@@ -1,16 +1,17 @@
 -- What the outcomes of an order have in common.
-use Rattle.std.specs.Prelude.{◌≡◌, ◌⊎◌, ℕ, List, Option, Some}
+use Rattle.std.specs.Prelude.{◌≡◌, ◌⊎◌, ℕ, List, [], ◌∷◌, Option, Some}
 use Rattle.usuba0.specs.Circuit.{Circuit}
 use Rattle.linear_view.specs.View.{LinearView}
 use Rattle.attack_model.specs.declared.attack.Attack.{Attack}
 use Rattle.c_tree.specs.declared.CFile.{CFile}
 use Rattle.data_text.specs.declared.read.RunValues.{RunValues}
-use Rattle.tornado_words.specs.Ranges.{HasFitWidth}
+use Rattle.tornado_words.specs.Ranges.{HasFitWidth, IsInRange}
 use Rattle.tornado_words.specs.declared.order.Basis.{Basis}
 use Rattle.tornado_main.specs.Bases.{Holds, IsFaulty}
-use Rattle.tornado_main.specs.Files.{Contents}
+use Rattle.tornado_main.specs.Files.{Contents, IsFetched}
 use Rattle.tornado_main.specs.Orders.{OrderEnds}
 use Rattle.tornado_main.specs.Outcome.{Outcome, answers, refused, unread}
+use Rattle.tornado_main.specs.Words.{files_of}
 use Rattle.tornado_main.specs.commands.Eval.{SaysInputs, IsFaultyInputs}
 use Rattle.tornado_main.specs.commands.Run.{IsCFile, IsFaultyCFile, SaysRun, IsFaultyRun}
 use Rattle.tornado_main.specs.commands.Verify.{SpellsAttack, IsFaultyAttack}
@@ -18,6 +19,7 @@ use Rattle.tornado_main.specs.declared.message.Fault.{Fault}
 use Rattle.tornado_main.specs.declared.status.Status.{Status}
 use Rattle.tornado_main.specs.declared.status.Status.TheVariants.{Done, Found, Source, Values}
 use Rattle.tornado_words.specs.declared.order.Order.{Order}
+use Rattle.tornado_words.specs.declared.order.Order.TheVariants as order
 
 -- the outcome is an answer with this status or a refusal of a file with it, and no refused fetch
 abbrev pub HasStatus : Status → Outcome → Type 0
@@ -63,3 +65,39 @@ CFileOrFault = (bytes : List ℕ)
 abbrev pub RunDataOrFault : Type 0
 RunDataOrFault = (file : CFile) (bytes : List ℕ)
     → ((said : RunValues) × SaysRun file said bytes) ⊎ ((fault : Fault) × IsFaultyRun file fault bytes)
+
+-- the outcome is no refused fetch
+abbrev pub IsOfContents : Outcome → Type 0
+IsOfContents (answers text status) = Unit {0}
+IsOfContents (refused status name fault) = Unit {0}
+IsOfContents (unread name why) = ⊥
+
+-- an answer or a refusal of a file is among the outcomes
+abbrev pub HasOutcome : (Outcome → Type 0) → Type 0
+HasOutcome May = (end : Outcome) × May end × IsOfContents end
+
+-- each of these files is held, and is no longer than a file may be
+abbrev pub AreHeld : (List ℕ → Option (List ℕ)) → List (List ℕ) → Type 0
+AreHeld file [] = Unit {0}
+AreHeld file (name ∷ names) = ((bytes : List ℕ) × IsFetched (Some file) name bytes) × AreHeld file names
+
+-- what is asked for can be computed without looking for attacks
+abbrev pub IsComputed : Order → Type 0
+IsComputed (order.Core file basis) = Unit {0}
+IsComputed (order.Rows file basis) = Unit {0}
+IsComputed (order.Check file basis) = ⊥
+IsComputed (order.Verify file attack basis) = ⊥
+IsComputed (order.Repair file basis) = ⊥
+IsComputed (order.Eval file values basis) = Unit {0}
+IsComputed (order.Trial file shares seed basis) = Unit {0}
+IsComputed (order.Gen seed size) = ⊥
+IsComputed (order.Compile file word basis) = ⊥
+IsComputed (order.Run cfile values) = Unit {0}
+
+-- Where the files of an order in range are held, it has an outcome that is an answer or a refusal of one of them. Where
+-- attacks matter there can't be none: they are sets of columns of which the logic does not decide whether they exist.
+pub record OrdersHaveOutcomes : Type 0 where
+  pub computed : (file : List ℕ → Option (List ℕ)) (o : Order) → IsInRange o → AreHeld file (files_of o)
+      → IsComputed o → HasOutcome (OrderEnds (Some file) o)
+  pub each : (file : List ℕ → Option (List ℕ)) (o : Order) → IsInRange o → AreHeld file (files_of o)
+      → ¬ ¬ HasOutcome (OrderEnds (Some file) o)

@@ -17,7 +17,7 @@ mod words;
 
 pub use laws::{
     file_has_attack_or_fault, file_has_core_or_fault, file_has_inputs_or_fault,
-    file_has_run_data_or_fault, file_is_c_or_fault, outcomes_agree,
+    file_has_run_data_or_fault, file_is_c_or_fault, orders_have_outcomes, outcomes_agree,
 };
 pub use process::run;
 pub use program::tornado;

@@ -1,0 +1,3 @@
+mod FitTerms
+mod OrderedTerms
+mod CoreOfSource

@@ -7,13 +7,13 @@ use Rattle.span_model.specs.Columns.{Columns, empty, ◌△◌, set_of}
 use Rattle.span_model.specs.Span.{InSpan, Spans, IsIndependent, IsMeet}
 use Rattle.span_model.specs.Attack.{Product, HasAttack}
 use Rattle.span_model.specs.Closure.{Step, operand, co_operand, co_operands, IsChain, IsClosed}
-use Rattle.span_model.proofs.Sets.{△_cancel_right, empty-△}
+use Rattle.span_model.proofs.Sets.{△_cancel_right}
 use Rattle.span_model.proofs.Members.{in_as, in_none, in_parts, in_sum, in_behind, in_front, spans_none, spans_both, spans_cons, spans_follow}
 use Rattle.span_model.proofs.Ranks.{independent_at_most, independent_in_front}
 use Rattle.span_model.specs.AttackLaws.{LeaksAreClosed}
 use Rattle.gf2_span.proofs.Leads.{row_in}
 use Rattle.gf2_span.specs.Basis.{Basis, row_sets}
-use Rattle.tightprove.specs.Classes.{class_at, class_rows, IsPartner, AreClassesOf, Leaks, MeetEmpty, IsClean, KeepsLeaks, IsLeakOf}
+use Rattle.tightprove.specs.Classes.{class_at, class_rows, IsPartner, AreClassesOf, Leaks, MeetEmpty, MeetOnly, IsClean, KeepsLeaks, IsLeakOf}
 use Rattle.tightprove.specs.Growth.{rows_of_all, MeetsWithin, IsHull, IsGrown, HasRowOutside, IsSaturated, span_at, ArePieces}
 use Rattle.tightprove.specs.declared.class.Class.{Class}
 
@@ -178,15 +178,15 @@ pieces_hold classes candidates span pieces split apart products are v m leak =
 
 -- ---- classes that are not near
 
--- rows that have nothing in common with the candidates and the span together have with the span only members of it in common with the candidates
-pub apart_within : (candidates rows span joint : List (Columns ℕ)) → Spans joint candidates → Spans joint span → MeetEmpty rows joint → MeetsWithin candidates rows span
+-- rows that have only members of the span in common with the candidates and the span together have with the span only members of it in common with the candidates
+pub apart_within : (candidates rows span joint : List (Columns ℕ)) → Spans joint candidates → Spans joint span → MeetOnly rows joint span → MeetsWithin candidates rows span
 apart_within candidates rows span joint of_candidates of_span apart v m h =
     let p = in_parts rows span v h in
     let shared : InSpan joint p.0 = in_as joint (ap (λ (u : Columns ℕ). u △ p.1) (sym p.4) ∙ △_cancel_right p.0 p.1) (in_sum joint v p.1 (of_candidates v m) (of_span p.1 p.3)) in
-    in_as span (sym (empty-△ p.1) ∙ ap (λ (u : Columns ℕ). u △ p.1) (sym (apart p.0 p.2 shared)) ∙ p.4) p.3
+    in_as span p.4 (in_sum span p.0 p.1 (apart p.0 p.2 shared) p.3)
 
 -- then a candidate outside the span is outside of the rows with the span
-pub apart_outside : (candidates : Basis) (rows span joint : List (Columns ℕ)) → Spans joint (row_sets candidates) → Spans joint span → MeetEmpty rows joint
+pub apart_outside : (candidates : Basis) (rows span joint : List (Columns ℕ)) → Spans joint (row_sets candidates) → Spans joint span → MeetOnly rows joint span
     → HasRowOutside candidates.rows span → HasRowOutside candidates.rows (rows ++ span)
 apart_outside candidates rows span joint of_candidates of_span apart out =
     (out.0, out.1, λ h. out.2 (apart_within (row_sets candidates) rows span joint of_candidates of_span apart (set_of (get_or candidates.rows out.0 [])) (row_in candidates.rows out.0 out.1) h))

@@ -15,10 +15,9 @@ use Rattle.span_model.specs.Columns.{Columns, empty, set_of, sets_of}
 use Rattle.span_model.specs.Span.{SameSpan}
 use Rattle.span_model.specs.Attack.{Product, product_at}
 use Rattle.span_model.specs.Closure.{Step, Side, on_left, on_right, operand, co_operand}
-use Rattle.gf2_span.specs.Rows.{IsLast, HaveOwnLeads, LeadsAreKept}
-use Rattle.gf2_span.specs.Basis.{Basis, row_sets}
+use Rattle.gf2_span.specs.Rows.{IsLast, HaveOwnLeads}
 use Rattle.linear_view.specs.View.{HasRows}
-use Rattle.tightprove.specs.Classes.{class_at, class_rows, IsPartner, StepBetween, AreStepsOf, AreClasses, AreByLead, HasClassesOf, HasPartnersAnd, HasInLanes, AreListed, AreNear, MeetEmpty}
+use Rattle.tightprove.specs.Classes.{class_at, class_rows, IsPartner, StepBetween, AreStepsOf, AreClasses, AreByLead, HasClassesOf, HasPartnersAnd, HasInLanes, AreListed, LeadsMember}
 use Rattle.tightprove.specs.declared.class.Class.{Class}
 use Rattle.tightprove.proofs.Closures.{partner_of}
 
@@ -449,41 +448,24 @@ lane_more lane flags more n lt before kept here i h = elim (taken_cases lane n i
   | inr e ↦ (let P : ℕ → Type 0 = λ x. get_or more x false ≡ true in subst P e here)
 ]
 
-pub lanes_done : (table : List (List ℕ)) (leads : List ℕ) (flags more : List Bool) (n : ℕ) → n < length leads
-    → ((c i : ℕ) → Contains (take n leads) c → Contains (get_or table c []) i → get_or flags i false ≡ true)
+pub lanes_done : (table : List (List ℕ)) (leads : List ℕ) (flags more : List Bool) (low n : ℕ) → n < length leads
+    → ((c i : ℕ) → Contains (take n leads) c → low ≤ c → Contains (get_or table c []) i → get_or flags i false ≡ true)
     → ((i : ℕ) → get_or flags i false ≡ true → get_or more i false ≡ true)
-    → ((i : ℕ) → Contains (get_or table (get_or leads n 0) []) i → get_or more i false ≡ true)
-    → (c i : ℕ) → Contains (take (n + 1) leads) c → Contains (get_or table c []) i → get_or more i false ≡ true
-lanes_done table leads flags more n lt before kept here c i h lane = elim (taken_cases leads n c lt h) [
-  | inl old ↦ kept i (before c i old lane)
-  | inr e ↦ (let P : ℕ → Type 0 = λ x. Contains (get_or table x []) i in here i (subst P (sym e) lane))
+    → (low ≤ get_or leads n 0 → (i : ℕ) → Contains (get_or table (get_or leads n 0) []) i → get_or more i false ≡ true)
+    → (c i : ℕ) → Contains (take (n + 1) leads) c → low ≤ c → Contains (get_or table c []) i → get_or more i false ≡ true
+lanes_done table leads flags more low n lt before kept here c i h high lane = elim (taken_cases leads n c lt h) [
+  | inl old ↦ kept i (before c i old high lane)
+  | inr e ↦ (let P : ℕ → Type 0 = λ x. low ≤ x → (k : ℕ) → Contains (get_or table x []) k → get_or more k false ≡ true in subst P e here high i lane)
 ]
 
--- a class that no list of a greatest column of the span names has nothing in common with the span
-pub near_ends : (columns : ℕ) (classes : List Class) (table : List (List ℕ)) (span : Basis) (leads : List ℕ) (flags : List Bool) (near : List ℕ) → LeadsAreKept
-    → AreClasses columns classes → AreByLead classes table → HaveOwnLeads (row_sets span)
-    → ((k c : ℕ) → k < length span.rows → IsLast (set_of (get_or span.rows k [])) c → Contains leads c)
-    → ((c i : ℕ) → Contains leads c → Contains (get_or table c []) i → get_or flags i false ≡ true)
-    → AreListed (length classes) flags near → AreNear classes (row_sets span) near
-near_ends columns classes table span leads flags near law are by_lead own all lanes listed = record {
-  few = omega (arith, listed.once);
-  numbers = listed.numbers;
-  others = λ i. at i (get_or flags i false) refl;
-}
-  where
-    at : (i : ℕ) (b : Bool) → get_or flags i false ≡ b → Contains near i ⊎ MeetEmpty (class_rows classes i) (row_sets span)
-    at i true on = inl (listed.listed i on)
-    at i false off = inr (λ v a b. not_other v (λ some.
-        let p = law (class_rows classes i) (are.leads i) v a some in
-        let q = law (row_sets span) own v b some in
-        let e : p.1 ≡ q.1 = last_same v p.1 q.1 p.4 q.4 in
-        let within : q.0 < length span.rows = omega (arith, q.2, length-map span.rows set_of) in
-        let L : Columns ℕ → Type 0 = λ u. IsLast u q.1 in
-        let there : Contains leads q.1 = all q.0 q.1 within (subst L (get_or-map set_of span.rows q.0 [] empty within) q.3) in
-        let P : ℕ → Type 0 = λ c. Contains (get_or table c []) i in
-        let lane : Contains (get_or table q.1 []) i = subst P e (by_lead.listed i p.0 p.1 p.2 p.3) in
-        let on : get_or flags i false ≡ true = lanes q.1 i there lane in
-        cc (on, off)))
+-- one more lead that is tested for the least one outside
+pub outside_more : (within : List (Columns ℕ)) (leads : List ℕ) (n lead low lower : ℕ) → n < length leads → lead ≡ get_or leads n 0
+    → ((c : ℕ) → Contains (take n leads) c → c < low → LeadsMember within c) → lower ≤ low → (lead < lower → LeadsMember within lead)
+    → (c : ℕ) → Contains (take (n + 1) leads) c → c < lower → LeadsMember within c
+outside_more within leads n lead low lower lt is before less here c h under = elim (taken_cases leads n c lt h) [
+  | inl old ↦ before c old (omega arith)
+  | inr e ↦ (let P : ℕ → Type 0 = λ x. x < lower → LeadsMember within x in subst P (is ∙ e) here under)
+]
 
 -- ---- products of a view
 

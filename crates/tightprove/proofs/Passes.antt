@@ -56,7 +56,7 @@ hull_skips classes candidates near n before now false passed tested = (
 )
 
 hull_whole : (classes : List Class) (candidates : Basis) (near : List ℕ) (growth : Growth) → IsGrowth classes candidates growth
-    → AreNear classes (row_sets growth.joint) near → ((m : ℕ) → m < length near → MeetsNoMore classes candidates growth (get_or near m 0))
+    → AreNear classes (row_sets growth.joint) (row_sets growth.span) near → ((m : ℕ) → m < length near → MeetsNoMore classes candidates growth (get_or near m 0))
     → IsHull classes (row_sets candidates) (row_sets growth.span)
 hull_whole classes candidates near growth is are tested i j partner = elim (are.others i) [
   | inl listed ↦
@@ -69,11 +69,11 @@ hull_whole classes candidates near growth is are tested i j partner = elim (are.
 ]
 
 pub hull_ends : (classes : List Class) (candidates : Basis) (near : List ℕ) (n : ℕ) (before now : Growth) (grew : Bool)
-    → HullPassed classes candidates near n before grew now → length near ≤ n → IsGrowth classes candidates now → AreNear classes (row_sets before.joint) near
+    → HullPassed classes candidates near n before grew now → length near ≤ n → IsGrowth classes candidates now → AreNear classes (row_sets before.joint) (row_sets before.span) near
     → MatchBool grew (left_over now < left_over before) (IsHull classes (row_sets candidates) (row_sets now.span))
 hull_ends classes candidates near n before now true passed past is are = passed
 hull_ends classes candidates near n before now false passed past is are =
-    let P : Growth → Type 0 = λ g. AreNear classes (row_sets g.joint) near in
+    let P : Growth → Type 0 = λ g. AreNear classes (row_sets g.joint) (row_sets g.span) near in
     hull_whole classes candidates near now is (subst P (sym passed.0) are) (λ m h. passed.1 m (omega arith))
 
 -- ---- a pass that grows the span
@@ -102,7 +102,7 @@ grow_skips classes candidates near n before now false passed tested = (
 )
 
 grow_whole : (classes : List Class) (candidates : Basis) (near : List ℕ) (growth : Growth) → IsGrowth classes candidates growth
-    → AreNear classes (row_sets growth.joint) near → ((m : ℕ) → m < length near → HoldsNoMore classes candidates growth (get_or near m 0))
+    → AreNear classes (row_sets growth.joint) (row_sets growth.span) near → ((m : ℕ) → m < length near → HoldsNoMore classes candidates growth (get_or near m 0))
     → HasRowOutside candidates.rows (row_sets growth.span) → IsSaturated classes candidates (row_sets growth.span)
 grow_whole classes candidates near growth is are tested out i j partner = elim (are.others i) [
   | inl listed ↦
@@ -115,12 +115,12 @@ grow_whole classes candidates near growth is are tested out i j partner = elim (
 ]
 
 pub grow_ends : (classes : List Class) (candidates : Basis) (near : List ℕ) (n : ℕ) (before now : Growth) (grew : Bool)
-    → GrowPassed classes candidates near n before grew now → length near ≤ n → IsGrowth classes candidates now → AreNear classes (row_sets before.joint) near
+    → GrowPassed classes candidates near n before grew now → length near ≤ n → IsGrowth classes candidates now → AreNear classes (row_sets before.joint) (row_sets before.span) near
     → HasRowOutside candidates.rows (row_sets before.span)
     → MatchBool grew (left_over now < left_over before) (IsSaturated classes candidates (row_sets now.span))
 grow_ends classes candidates near n before now true passed past is are out = passed
 grow_ends classes candidates near n before now false passed past is are out =
-    let P : Growth → Type 0 = λ g. AreNear classes (row_sets g.joint) near in
+    let P : Growth → Type 0 = λ g. AreNear classes (row_sets g.joint) (row_sets g.span) near in
     let Q : Growth → Type 0 = λ g. HasRowOutside candidates.rows (row_sets g.span) in
     grow_whole classes candidates near now is (subst P (sym passed.0) are) (λ m h. passed.1 m (omega arith)) (subst Q (sym passed.0) out)
 
@@ -233,7 +233,7 @@ pieces_same classes candidates span near n pieces piece so_far apart ended free 
 }
 
 pub pieces_end : (classes : List Class) (candidates : Basis) (span joint : List (Columns ℕ)) (near : List ℕ) (n : ℕ) (pieces : List Basis)
-    → PiecesSoFar classes candidates span near n pieces → n ≡ length near → AreNear classes joint near → IsSum joint (row_sets candidates) span
+    → PiecesSoFar classes candidates span near n pieces → n ≡ length near → AreNear classes joint span near → IsSum joint (row_sets candidates) span
     → MeetEmpty (row_sets candidates) span → ArePieces classes candidates span pieces
 pieces_end classes candidates span joint near n pieces so_far past are sum apart = record {
   few = omega (arith, so_far.few, are.few, past);

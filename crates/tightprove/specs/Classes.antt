@@ -80,11 +80,19 @@ pub record AreListed (count : ℕ) (flags : List Bool) (near : List ℕ) : Type 
 abbrev pub MeetEmpty : (a b : List (Columns ℕ)) → Type 0
 MeetEmpty a b = (v : Columns ℕ) → InSpan a v → InSpan b v → v ≡ empty
 
--- numbers of classes, at most as many as there are. Each class is among them, or has no member but the empty set in common with the span of the rows
-pub record AreNear (classes : List Class) (rows : List (Columns ℕ)) (near : List ℕ) : Type 0 where
+-- what two lists of rows span in common is in the span of a third
+abbrev pub MeetOnly : (a b within : List (Columns ℕ)) → Type 0
+MeetOnly a b within = (v : Columns ℕ) → InSpan a v → InSpan b v → InSpan within v
+
+-- the column is the greatest one of a member of the span of the rows
+abbrev pub LeadsMember : List (Columns ℕ) → ℕ → Type 0
+LeadsMember rows c = (v : Columns ℕ) × InSpan rows v × IsLast v c
+
+-- numbers of classes, at most as many as there are. Each class is among them, or has only members of the span `within` in common with the span of the rows
+pub record AreNear (classes : List Class) (rows within : List (Columns ℕ)) (near : List ℕ) : Type 0 where
   pub few : length near ≤ length classes
   pub numbers : All (λ i. i < length classes) near
-  pub others : (i : ℕ) → Contains near i ⊎ MeetEmpty (class_rows classes i) rows
+  pub others : (i : ℕ) → Contains near i ⊎ MeetOnly (class_rows classes i) rows within
 
 -- the set is closed and not empty: by the law `leaks_are_closed` of `span_model` it is the leak of an attack
 abbrev pub Leaks : List (Product ℕ) → Columns ℕ → Type 0

@@ -1,10 +1,10 @@
 ghost use Rattle.std.specs.Prelude.{◌≡◌, ◌≢◌, ◌<◌, ◌≤◌, ◌+◌, ◌^◌, ◌++◌, ℕ, [], ◌∷◌, List, length, true, false, Some, slice_index_or, IfOk, OnOk, OnErr, IfSome, All, Contains, suc};
 ghost use Rattle.span_model.specs.Columns.{sets_of, set_of};
-ghost use Rattle.span_model.specs.Span.{SameSpan};
+ghost use Rattle.span_model.specs.Span.{SameSpan, Spans};
 ghost use Rattle.span_model.specs.Attack.{Product, product_at};
 ghost use Rattle.gf2_span.specs.Basis.{row_sets};
 ghost use Rattle.linear_view.specs.View.{products_of, product_of, Operands};
-ghost use Rattle.tightprove.specs.Classes.{class_at, class_rows, IsPartner, AreClasses, AreByLead, AreClassesOf, AreStepsOf, AreNear, AreListed, IsGathered, HasClassesOf, HasPartnersAnd, HasInLanes};
+ghost use Rattle.tightprove.specs.Classes.{class_at, class_rows, IsPartner, AreClasses, AreByLead, AreClassesOf, AreStepsOf, AreNear, AreListed, IsGathered, HasClassesOf, HasPartnersAnd, HasInLanes, LeadsMember};
 ghost use Rattle.gf2_span.specs.Rows.{IsLast, HaveOwnLeads};
 ghost use Rattle.std.specs.Bool.{OnTrue};
 
@@ -326,19 +326,64 @@ fn list_lane(lane: &[usize], listed: &mut BitRow, near: &mut Vec<usize>) -> Resu
     Ok(())
 }
 
-/// The classes that share a greatest column with the span: any other class has no member in common with it but the empty set.
+// The lesser of a column and a lead, where the lead is that of no member of the span.
+fn lower(low: u32, lead: u32, within: &Span) -> u32
+    ensures less { result ≤ low }
+    ensures led { lead < result → LeadsMember (row_sets within.now) lead }
+{
+    if low <= lead {
+        return low;
+    }
+    if within.has_lead(lead) {
+        return low;
+    }
+    lead
+}
+
+// The least of the leads that is that of no member of the span, or `most`.
+fn least_outside(leads: &[u32], within: &Span, most: u32) -> u32
+    ensures { (c : ℕ) → Contains leads.now c → c < result → LeadsMember (row_sets within.now) c }
+{
+    let mut low = most;
+    for lead in leads {
+        low = lower(low, *lead, within);
+    }
+    low
+}
+
+// The list at a column, or none where the column is below `low`.
+fn lane_from(table: &Vec<List<usize>>, c: u32, low: u32) -> &[usize]
+    ensures some { low ≤ c → result.now ≡ slice_index_or table.now.items c [] }
+    ensures only { (i : ℕ) → Contains result.now i → Contains (slice_index_or table.now.items c []) i }
+{
+    if c < low {
+        return &[];
+    }
+    lane_at(table, c)
+}
+
+/// The classes that share a greatest column with the span, from the least one on that is that of no member of `within`: any other class
+/// has only members of `within` in common with it.
 pub(crate) fn touching(
     alloc: Global,
     classes: &Classes,
     span: &Span,
+    within: &Span,
 ) -> Result<Vec<usize>, AllocError>
-    requires { IsGathered classes.now }
-    ensures { IfOk result (λ near. AreNear classes.now.list.items (row_sets span.now) near.items) }
+    requires classes { IsGathered classes.now }
+    requires held { Spans (row_sets span.now) (row_sets within.now) }
+    ensures { IfOk result (λ near. AreNear classes.now.list.items (row_sets span.now) (row_sets within.now) near.items) }
 {
     let mut listed = BitRow::new(alloc, classes.count())?;
     let mut near = Vec::new(alloc);
-    for lead in &leads_of(alloc, span)? {
-        list_lane(lane_at(&classes.by_lead, *lead), &mut listed, &mut near)?;
+    let leads = leads_of(alloc, span)?;
+    let low = least_outside(leads.as_slice(), within, classes.columns);
+    for lead in &leads {
+        list_lane(
+            lane_from(&classes.by_lead, *lead, low),
+            &mut listed,
+            &mut near,
+        )?;
     }
     leads_are_kept();
     Ok(near)

@@ -1,4 +1,4 @@
-ghost use Rattle.std.specs.Prelude.{◌≡◌, ◌<◌, ◌≤◌, ◌⊎◌, ◌++◌, ℕ, [], length, true, false, slice_index_or, slice_set, IfOk, OnOk, MatchBool};
+ghost use Rattle.std.specs.Prelude.{◌≡◌, ◌<◌, ◌≤◌, ◌⊎◌, ◌++◌, ℕ, [], length, true, false, slice_index_or, slice_set, IfOk, OnOk, MatchBool, MatchOption};
 ghost use Rattle.std.specs.Bool.{OnFalse};
 ghost use Rattle.span_model.specs.Columns.{set_of, sets_of};
 ghost use Rattle.span_model.specs.Span.{Spans, SameSpan};
@@ -61,49 +61,42 @@ impl Growth {
 }
 
 // Whether the row is outside the span, and its greatest column is that of a member of the joint span. Where it is not so, the answer is exact.
-fn leads_outside(
-    alloc: Global,
-    row: &BitRow,
-    span: &Span,
-    joint: &Span,
-    scratch: &mut BitRow,
-) -> Result<bool, AllocError>
+fn leads_outside(row: &BitRow, span: &Span, joint: &Span, scratch: &mut BitRow) -> bool
     requires row { length row.now ≡ span.now.columns }
-    requires joint { joint.now.columns ≡ span.now.columns }
     requires scratch { length scratch.old ≡ span.now.columns }
-    ensures answer { IfOk result (λ outside. OnFalse outside (LeadsWithin (row_sets span.now) (row_sets joint.now) (set_of row.now))) }
+    ensures answer { OnFalse result (LeadsWithin (row_sets span.now) (row_sets joint.now) (set_of row.now)) }
     ensures scratch { length scratch.new ≡ length scratch.old }
 {
-    if span.contains(row, scratch) {
-        return Ok(false);
+    let Some(c) = row.last() else {
+        return false;
+    };
+    if !joint.has_lead(c) {
+        return false;
     }
-    let mut rest = row.copy(alloc)?;
-    Ok(joint.reduce_last(&mut rest) != row.last())
+    !span.contains(row, scratch)
 }
 
-// Whether one of the rows leads outside. Where none does, the rows hold with the span no more of the joint span than the span.
-fn any_leads_outside(
-    alloc: Global,
-    rows: &[BitRow],
+// The first of the rows that leads outside. Where none does, the rows hold with the span no more of the joint span than the span.
+fn first_outside<'a>(
+    rows: &'a [BitRow],
     span: &Span,
     joint: &Span,
     scratch: &mut BitRow,
-) -> Result<bool, AllocError>
+) -> Option<&'a BitRow>
     requires wide { (k : ℕ) → k < length rows.now → length (slice_index_or rows.now k []) ≡ span.now.columns }
-    requires joint { joint.now.columns ≡ span.now.columns }
     requires scratch { length scratch.old ≡ span.now.columns }
     requires own { HaveOwnLeads (sets_of rows.now) }
     requires span_in { Spans (row_sets joint.now) (row_sets span.now) }
-    ensures answer { IfOk result (λ outside. OnFalse outside (MeetsWithin (row_sets joint.now) (sets_of rows.now) (row_sets span.now))) }
+    ensures answer { MatchOption result (MeetsWithin (row_sets joint.now) (sets_of rows.now) (row_sets span.now)) (λ row. length row.now ≡ span.now.columns) }
     ensures scratch { length scratch.new ≡ length scratch.old }
 {
     for row in rows {
-        if leads_outside(alloc, row, span, joint, scratch)? {
-            return Ok(true);
+        if leads_outside(row, span, joint, scratch) {
+            return Some(row);
         }
     }
     leads_are_kept();
-    Ok(false)
+    None
 }
 
 // Whether the rows hold with the span some of the candidates outside the span. Where they do not, the answer is exact.
@@ -125,8 +118,11 @@ fn meets_outside(
     ensures answer { IfOk result (λ outside. OnFalse outside (MeetsWithin (row_sets candidates.now) (sets_of rows.now) (row_sets span.now))) }
     ensures scratch { length scratch.new ≡ length scratch.old }
 {
-    if !any_leads_outside(alloc, rows, span, joint, scratch)? {
+    let Some(row) = first_outside(rows, span, joint, scratch) else {
         return Ok(false);
+    };
+    if candidates.contains(row, scratch) {
+        return Ok(true);
     }
     let meet = Span::meet_sum(alloc, candidates, rows, span)?;
     Ok(!meet.is_within(span, scratch))
@@ -201,7 +197,7 @@ fn hull_pass(
     ensures scratch { OnOk result (length scratch.new ≡ length scratch.old) }
     ensures answer { IfOk result (λ grew. MatchBool grew (left_over growth.new < left_over growth.old) (IsHull classes.now.list.items (row_sets candidates.now) (row_sets growth.new.span))) }
 {
-    let near = touching(alloc, classes, &growth.joint)?;
+    let near = touching(alloc, classes, &growth.joint, &growth.span)?;
     let mut grew = false;
     for i in &near {
         if take_if_meets(alloc, classes, candidates, growth, *i, scratch)? {
@@ -232,6 +228,18 @@ fn hull(alloc: Global, classes: &Classes, candidates: &Span) -> Result<Span, All
     }
 }
 
+// The candidates in their hull, which hold all their leaks.
+fn within_hull(alloc: Global, classes: &Classes, candidates: &Span) -> Result<Span, AllocError>
+    requires classes { IsGathered classes.now }
+    requires columns { candidates.now.columns ≡ classes.now.columns }
+    ensures columns { IfOk result (λ less. less.columns ≡ candidates.now.columns) }
+    ensures leaks { IfOk result (λ less. KeepsLeaks classes.now.list.items (row_sets candidates.now) (row_sets less)) }
+{
+    let hull = hull(alloc, classes, candidates)?;
+    let less = Span::meet(alloc, candidates, &hull)?;
+    Ok(less)
+}
+
 /// The candidates that are left when none is outside its hull.
 pub(crate) fn shrink(
     alloc: Global,
@@ -244,10 +252,12 @@ pub(crate) fn shrink(
     ensures leaks { IfOk result (λ rest. KeepsLeaks classes.now.list.items (row_sets candidates.now) (row_sets rest)) }
     ensures rank { IfOk result (λ rest. length rest.rows ≤ length candidates.now.rows) }
 {
-    let mut rest = candidates.copy(alloc)?;
+    let mut rest = within_hull(alloc, classes, candidates)?;
+    if rest.rank() >= candidates.rank() {
+        return candidates.copy(alloc);
+    }
     while rest.rank() > 0 {
-        let hull = hull(alloc, classes, &rest)?;
-        let less = Span::meet(alloc, &rest, &hull)?;
+        let less = within_hull(alloc, classes, &rest)?;
         if less.rank() >= rest.rank() {
             return Ok(rest);
         }
@@ -311,7 +321,7 @@ fn grow_pass(
     ensures scratch { OnOk result (length scratch.new ≡ length scratch.old) }
     ensures answer { IfOk result (λ grew. MatchBool grew (left_over growth.new < left_over growth.old) (IsSaturated classes.now.list.items candidates.now (row_sets growth.new.span))) }
 {
-    let near = touching(alloc, classes, &growth.joint)?;
+    let near = touching(alloc, classes, &growth.joint, &growth.span)?;
     let mut grew = false;
     for i in &near {
         if take_if_holds(alloc, classes, candidates, growth, *i, scratch)? {

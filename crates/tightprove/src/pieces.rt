@@ -37,7 +37,7 @@ pub(crate) fn pieces(
 {
     let joint = Span::sum(alloc, candidates, span)?;
     let mut pieces = Vec::new(alloc);
-    for i in &touching(alloc, classes, &joint)? {
+    for i in &touching(alloc, classes, &joint, span)? {
         let piece = Span::meet_sum(alloc, candidates, classes.list[*i].rows.as_slice(), span)?;
         if piece.rank() < candidates.rank() {
             pieces.push(piece)?;

@@ -2,7 +2,7 @@ use Rattle.std.proofs.Common.{◌≡◌, ◌<◌, ℕ, [], length, get_or}
 use Rattle.span_model.specs.Columns.{set_of}
 use Rattle.gf2_span.specs.Basis.{row_sets}
 use Rattle.tightprove.specs.Growth.{LeadsWithin}
-use Rattle.tightprove.proofs.growth.any_leads_outside.Given as goal
+use Rattle.tightprove.proofs.growth.first_outside.Given as goal
 
 abbrev pub invariant-loop-row : goal.invariant-loop-row
 invariant-loop-row l = record {

@@ -2,13 +2,13 @@ use Rattle.std.proofs.Common.{◌∙◌}
 use Rattle.std.proofs.lemmas.Bool.{OnFalse_at}
 use Rattle.gf2_span.specs.Basis.{row_sets}
 use Rattle.tightprove.proofs.Leading.{led_more, led_end}
-use Rattle.tightprove.proofs.growth.any_leads_outside.Goals as goal
+use Rattle.tightprove.proofs.growth.first_outside.Goals as goal
 
 pub loop-row-preserved : goal.loop-row-preserved
 loop-row-preserved c = record {
   columns = c.leads_outside.ensures.scratch ∙ c.loop-row.invariant.columns;
   within = led_more (row_sets c.args.span.now) (row_sets c.args.joint.now) c.args.rows.now c.loop-row.row-index c.row-item.result c.loop-row-test.true c.row-item.is c.loop-row.invariant.within
-      (OnFalse_at c.if-branch.false c.in_ok-leads_outside.ensures.answer);
+      (OnFalse_at c.if-leads_outside.false c.leads_outside.ensures.answer);
 }
 
 pub returns-clause-answer : goal.returns-clause-answer

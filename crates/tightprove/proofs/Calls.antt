@@ -82,3 +82,28 @@ none_then (Some x) b P Q e f h = cc (e, f)
 pub empty_list : {X : Type 0} (xs : List X) → length xs ≡ 0 → xs ≡ []
 empty_list [] e = refl
 empty_list (x ∷ xs) e = absurd (omega arith)
+
+-- ---- answers that say something where they are true
+
+pub on_true : (b : Bool) (P : Type 0) → (b ≡ true → P) → OnTrue b P
+on_true true P f = f refl
+on_true false P f = tt
+
+pub of_true : (b : Bool) (P : Type 0) → b ≡ true → OnTrue b P → P
+of_true true P e p = p
+of_true false P e p = cc e
+
+-- a list of one element
+pub one_element : {X : Type 0} (xs : List X) (x : X) → length xs ≡ 1 → x ≡ get_or xs 0 x → xs ≡ x ∷ []
+one_element [] x e is = absurd (omega arith)
+one_element (y ∷ []) x e is = ap (λ z. z ∷ []) (sym is)
+one_element (y ∷ z ∷ xs) x e is = absurd (omega arith)
+
+pub is_none_then : {X : Type 0} (found : Option X) (b : Bool) → is_some found ≡ not b → b ≡ true → found ≡ None
+is_none_then None b e f = refl
+is_none_then (Some x) true e f = cc e
+is_none_then (Some x) false e f = cc f
+
+pub of_none : {X : Type 0} (found : Option X) (P : Type 0) (Q : X → Type 0) → found ≡ None → MatchOption found P Q → P
+of_none None P Q e h = h
+of_none (Some x) P Q e h = cc e

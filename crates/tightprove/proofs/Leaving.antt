@@ -1,7 +1,8 @@
 -- Products that are left out of the classes of their operands.
 use Rattle.std.proofs.Common.{◌≡◌, inl, inr, ℕ, ◌+◌, ◌<◌, zero, suc, Bool, true, false, cond, List, [], ◌∷◌, ◌++◌, length, get_or, refl, sym, ap, ◌∙◌, subst, arith, Option, Some, None, MatchBool, MatchOption}
 use Rattle.std.specs.List.{Contains}
-use Rattle.std.specs.Option.{is_some}
+use Rattle.std.specs.Option.{is_some, IfSome}
+use mathlib.Core.Path.{fun_ext}
 use Rattle.std.proofs.lemmas.Bool.{cases_lt, true≢false}
 use Rattle.std.proofs.lemmas.List.{get_or_push, get_or_append_left}
 use Rattle.span_model.specs.Columns.{Columns, sets_of, set_of}
@@ -14,7 +15,9 @@ use Rattle.tightprove.specs.Classes.{class_at, class_rows, AreStepsOf, AreClasse
 use Rattle.tightprove.specs.declared.class.Class.{Class}
 use Rattle.tightprove.specs.declared.gathered.Gathered.{Gathered}
 use Rattle.tightprove.specs.declared.gathered.Place.{Place}
+use Rattle.tightprove.specs.declared.images.Images.{Images}
 use Rattle.tightprove.specs.Private.Gathered.{place_at, rows_in, IsPlaceOf, IsGatheredOf, KeepsRows, HasSameRows, HasNoLeak}
+use Rattle.tightprove.specs.Private.Images.{AreImages, AreImagesOf}
 
 -- ---- left out products
 
@@ -185,7 +188,18 @@ rows_twice old mid new first second =
       columns = second.columns ∙ first.columns;
       places = second.places ∙ first.places;
       bare = second.bare ∙ first.bare;
+      images = second.images ∙ first.images;
     }
+
+-- classes with the same rows have the same images
+pub images_same : (old new : List Class) → length new ≡ length old → ((k : ℕ) → class_rows new k ≡ class_rows old k) → (images : Option Images)
+    → IfSome images (λ own. AreImages old own) → IfSome images (λ own. AreImages new own)
+images_same old new count rows None none = none
+images_same old new count rows (Some own) (words, are) = (
+  words,
+  subst (λ (n : ℕ). AreImagesOf words (class_rows new) n own) (sym count)
+      (subst (λ (all : ℕ → List (Columns ℕ)). AreImagesOf words all (length old) own) (sym (fun_ext rows)) are),
+)
 
 -- ---- answers
 

@@ -2,9 +2,11 @@
 pub mod Calls
 pub mod Closures
 pub mod Gathering
+pub mod Imaging
 pub mod Leading
 pub mod Passes
 pub mod Pending
+pub mod Reaching
 pub mod Taking
 pub mod Verdicts
 mod Leaving

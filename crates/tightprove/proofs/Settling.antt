@@ -377,7 +377,7 @@ goes_answer law products S gathered m bounds false above count stuck are = clean
 
 -- the same classes
 pub rows_itself : (gathered : Gathered) → HasSameRows gathered gathered
-rows_itself gathered = record { count = refl; rows = λ i. refl; columns = refl; places = refl; bare = refl }
+rows_itself gathered = record { count = refl; rows = λ i. refl; columns = refl; places = refl; bare = refl; images = refl }
 
 -- one product more, by what a call says of the classes as they stand
 pub goes_step : AttackCarriesOver ℕ ℕ → (products : List (Product ℕ)) (first now : Gathered) (m : ℕ) (marks seen : List Bool) (bounds given raised : List ℕ) (goes : Bool)

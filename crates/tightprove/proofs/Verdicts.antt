@@ -1,11 +1,11 @@
 -- The answers of the search.
-use Rattle.std.proofs.Common.{◌≡◌, ◌≢◌, ◌⊎◌, ℕ, ◌<◌, ◌≤◌, Bool, true, false, List, [], ◌∷◌, length, get_or, ◌∙◌, subst, arith, MatchBool}
+use Rattle.std.proofs.Common.{◌≡◌, ◌≢◌, ◌⊎◌, ℕ, ◌<◌, ◌≤◌, Bool, true, false, List, [], ◌∷◌, length, get_or, ◌∙◌, subst, arith, MatchBool, MatchOption, Option, Some, None}
 use Rattle.std.specs.List.{Contains}
 use Rattle.std.proofs.lemmas.List.{get_or_default}
 use Rattle.span_model.specs.Columns.{Columns, empty, sets_of}
 use Rattle.span_model.specs.Span.{InSpan, Spans, SameSpan}
 use Rattle.span_model.specs.AttackLaws.{LeaksAreClosed}
-use Rattle.span_model.specs.Attack.{Product, IsLeak, HasAttack}
+use Rattle.span_model.specs.Attack.{Product, IsLeak}
 use Rattle.span_model.proofs.Members.{in_head, in_none}
 use Rattle.gf2_span.specs.Basis.{Basis, row_sets}
 use Rattle.tightprove.specs.Classes.{class_rows, AreClassesOf, MeetEmpty, IsClean, KeepsLeaks}
@@ -13,7 +13,7 @@ use Rattle.tightprove.specs.Growth.{IsGrown, IsSaturated, ArePieces, span_at}
 use Rattle.tightprove.specs.Tasks.{HoldLeaks}
 use Rattle.tightprove.specs.declared.class.Class.{Class}
 use Rattle.tightprove.proofs.Calls.{empty_list}
-use Rattle.tightprove.proofs.Closures.{leak_some, grown_leak, leak_in_grown, pieces_hold, all_clean}
+use Rattle.tightprove.proofs.Closures.{leak_some, grown_leak, leak_in_grown, pieces_hold}
 use Rattle.tightprove.proofs.Pending.{clean_within}
 
 match_same : (r : Bool) (P Q : Type 0) → (P → Q) → (Q → P) → MatchBool r P (¬ P) → MatchBool r Q (¬ Q)
@@ -62,12 +62,14 @@ class_clean classes i span rows clean same is =
     let P : List (Columns ℕ) → Type 0 = λ r. IsClean classes r in
     subst P is (clean_within classes span rows (λ v m. (same v).1 m) clean)
 
--- with all listed classes clean there is no attack
-pub listed_clean : LeaksAreClosed ℕ → (classes : List Class) (products : List (Product ℕ)) (order : List ℕ) (n : ℕ) → AreClassesOf products classes
-    → ((i : ℕ) → i < length classes → Contains order i) → length order ≤ n
-    → ((k : ℕ) → k < n → IsClean classes (class_rows classes (get_or order k 0))) → ¬ HasAttack products
-listed_clean law classes products order n are all past clean =
-    all_clean law classes products are (λ i lt.
+-- what holds of each number of a list that has all numbers below n holds of these
+pub listed : (P : ℕ → Type 0) (order : List ℕ) (n last : ℕ) → ((i : ℕ) → i < n → Contains order i) → length order ≤ last
+    → ((k : ℕ) → k < last → P (get_or order k 0)) → (i : ℕ) → i < n → P i
+listed P order n last all past each i lt =
     let f = all i lt in
-    let P : ℕ → Type 0 = λ j. IsClean classes (class_rows classes j) in
-    subst P (get_or_default order f.0 0 i f.1 ∙ f.2) (clean f.0 (omega (arith, f.1))))
+    subst P (get_or_default order f.0 0 i f.1 ∙ f.2) (each f.0 (omega (arith, f.1)))
+
+-- an answer that says something else where nothing was found
+pub found_clean : {X : Type 0} (found : Option X) (P Q : Type 0) (R : X → Type 0) → (P → Q) → MatchOption found P R → MatchOption found Q R
+found_clean None P Q R f h = f h
+found_clean (Some x) P Q R f h = h

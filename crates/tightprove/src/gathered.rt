@@ -9,9 +9,10 @@ ghost use Rattle.tightprove.specs.Growth.{AreKnown};
 ghost use Rattle.tightprove.specs.Private.Gathered.{marks_of, beyond, place_at, rows_in, IsPlaceOf, IsGatheredOf, IsReady, KeepsRows, HasSameRows};
 
 use crate::class::Class;
-use crate::classes::{Classes, add_partner, empty_lanes, place, span_of};
+use crate::classes::{Classes, add_partner, empty_lanes, place};
+use crate::cosets::leak_in;
+use crate::images::{Images, images_of};
 use crate::known::Known;
-use crate::tasks::leak_among;
 use linear_view::{Operand, Side, View};
 use std::alloc::{AllocError, Global};
 use tor_edge::List;
@@ -31,6 +32,7 @@ pub(crate) struct Gathered {
     pub(crate) places: Vec<Place>,
     // the class with no member but the empty set, of the operands of products that are left out
     pub(crate) bare: usize,
+    pub(crate) images: Option<Images>,
 }
 
 // The place of product k of a view, whose operands are gathered.
@@ -145,10 +147,12 @@ impl Gathered {
             list,
             by_lead,
         };
+        let images = images_of(alloc, &classes)?;
         Ok(Gathered {
             classes,
             places,
             bare,
+            images,
         })
     }
 
@@ -198,9 +202,8 @@ impl Gathered {
         ensures answer { IfOk result (λ leaks. MatchBool leaks ((v : Columns ℕ) × IsLeakOf self.now.classes.list.items v)
             (IsClean self.now.classes.list.items (rows_in self.now i))) }
     {
-        let rows = self.classes.list[i].rows.as_slice();
-        let candidates = span_of(alloc, self.classes.columns, rows)?;
-        let leak = leak_among(alloc, &self.classes, candidates, known)?;
+        let mut members = Vec::new(alloc);
+        let leak = leak_in(alloc, &self.classes, &self.images, i, known, &mut members)?;
         Ok(leak.is_some())
     }
 }

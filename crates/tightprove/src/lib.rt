@@ -7,8 +7,10 @@
 mod bounds;
 mod class;
 mod classes;
+mod cosets;
 mod gathered;
 mod growth;
+mod images;
 mod known;
 mod leaving_out;
 mod pieces;

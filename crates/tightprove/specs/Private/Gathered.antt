@@ -1,10 +1,11 @@
 -- The classes of the operands of products, of which some are left out.
-use Rattle.std.specs.Prelude.{◌≡◌, ◌<◌, ◌≤◌, ◌||◌, nat_le, ℕ, Bool, false, List, [], length, slice_index_or}
+use Rattle.std.specs.Prelude.{◌≡◌, ◌<◌, ◌≤◌, ◌||◌, nat_le, ℕ, Bool, false, List, [], length, slice_index_or, IfSome}
 use Rattle.span_model.specs.Columns.{Columns}
 use Rattle.span_model.specs.Span.{InSpan, SameSpan}
 use Rattle.span_model.specs.Attack.{Product, product_at, IsLeak}
 use Rattle.span_model.specs.Refresh.{left_out}
 use Rattle.tightprove.specs.Classes.{class_rows, IsGathered}
+use Rattle.tightprove.specs.Private.Images.{AreImages}
 use Rattle.tightprove.specs.declared.class.Class.{Class}
 use Rattle.tightprove.specs.declared.gathered.Gathered.{Gathered}
 use Rattle.tightprove.specs.declared.gathered.Place.{Place}
@@ -38,12 +39,13 @@ pub record IsGatheredOf (products : List (Product ℕ)) (gathered : Gathered) : 
   pub bare : SameSpan (rows_in gathered gathered.bare) []
   pub placed : (k : ℕ) → k < length products → IsPlaceOf gathered.classes.list.items (place_at gathered.places.items k) (product_at products k)
 
--- what is kept of the classes, and that places are numbers of classes
+-- what is kept of the classes, that places are numbers of classes, and what images there are
 pub record IsReady (gathered : Gathered) : Type 0 where
   pub classes : IsGathered gathered.classes
   pub bare : gathered.bare < length gathered.classes.list.items
   pub left : (k : ℕ) → k < length gathered.places.items → (place_at gathered.places.items k).left < length gathered.classes.list.items
   pub right : (k : ℕ) → k < length gathered.places.items → (place_at gathered.places.items k).right < length gathered.classes.list.items
+  pub images : IfSome gathered.images (λ images. AreImages gathered.classes.list.items images)
 
 -- more classes, and the rows of the old ones as they were
 pub record KeepsRows (old new : List Class) : Type 0 where
@@ -57,6 +59,7 @@ pub record HasSameRows (old new : Gathered) : Type 0 where
   pub columns : new.classes.columns ≡ old.classes.columns
   pub places : new.places ≡ old.places
   pub bare : new.bare ≡ old.bare
+  pub images : new.images ≡ old.images
 
 -- no member of the span of the rows is the leak of an attack on the products without those of the set
 abbrev pub HasNoLeak : List (Product ℕ) → (ℕ → Bool) → List (Columns ℕ) → Type 0

@@ -1,11 +1,14 @@
-use Rattle.std.proofs.Common.{◌≡◌, ◌∙◌, ◌<◌, cond, ℕ, Bool, List, length, add-one, sym, ap, subst, arith}
+use Rattle.std.proofs.Common.{◌≡◌, ◌∙◌, ◌<◌, cond, ℕ, Bool, List, Option, length, add-one, sym, ap, subst, arith}
+use Rattle.std.specs.Option.{IfSome}
 use Rattle.span_model.specs.Columns.{sets_of}
 use Rattle.span_model.specs.Refresh.{left_out}
 use Rattle.tightprove.specs.Classes.{AreByLead, AreStepsOf}
 use Rattle.tightprove.specs.declared.gathered.Place.{Place}
 use Rattle.tightprove.specs.Private.Gathered.{marks_of, beyond, place_at}
+use Rattle.tightprove.specs.Private.Images.{AreImages}
+use Rattle.tightprove.specs.declared.images.Images.{Images}
 use Rattle.tightprove.proofs.Gathering.{lanes_paired}
-use Rattle.tightprove.proofs.Leaving.{place_spans, length-left_out}
+use Rattle.tightprove.proofs.Leaving.{place_spans, length-left_out, images_same}
 use Rattle.tightprove.proofs.gathered.Gathered.leave_out.Goals as goal
 
 pub loop-k-preserved : goal.loop-k-preserved
@@ -26,6 +29,7 @@ loop-k-preserved c =
         columns = before.rows.columns;
         places = before.rows.places;
         bare = before.rows.bare;
+        images = before.rows.images;
       };
       lists = λ i. c.in_ok-pair.ensures.rows i ∙ before.lists i;
       by_lead = before.by_lead;
@@ -55,6 +59,8 @@ returns-clause-ready c =
       right = λ k h.
           subst (λ (p : List Place). (place_at p k).right < length c.loop-k.self.classes.list.items) places
           (let old = c.requires.ready.right k (subst (λ (p : List Place). k < length p) (sym places) h) in omega (arith, before.rows.count, old));
+      images = subst (λ (own : Option Images). IfSome own (λ x. AreImages c.loop-k.self.classes.list.items x)) (sym before.rows.images)
+          (images_same c.args.self.now.classes.list.items c.loop-k.self.classes.list.items before.rows.count before.rows.rows c.args.self.now.images c.requires.ready.images);
     }
 
 pub returns-clause-products : goal.returns-clause-products

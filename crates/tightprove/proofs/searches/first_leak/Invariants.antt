@@ -1,7 +1,7 @@
 use Rattle.std.proofs.Common.{◌<◌, ℕ, get_or}
 use Rattle.tightprove.specs.Classes.{IsClean, class_rows}
 use Rattle.tightprove.specs.Growth.{AreKnown}
-use Rattle.tightprove.proofs.searches.search.Given as goal
+use Rattle.tightprove.proofs.searches.first_leak.Given as goal
 
 abbrev pub invariant-loop-i : goal.invariant-loop-i
 invariant-loop-i l = record {

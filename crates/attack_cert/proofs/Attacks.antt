@@ -1,5 +1,5 @@
 -- The attack of a derivation and a listing of its unfolding is in range, and holds.
-use Rattle.std.proofs.Common.{◌≡◌, ◌<◌, ◌≤◌, ◌+◌, ◌*◌, ℕ, suc, List, [], ◌∷◌, length, Ok, sym, ap, ◌∙◌, subst, arith, All}
+use Rattle.std.proofs.Common.{◌≡◌, ◌<◌, ◌≤◌, ◌*◌, ℕ, suc, List, [], ◌∷◌, length, Ok, sym, ap, ◌∙◌, subst, arith, All}
 use Rattle.std.proofs.lemmas.List.{length-map}
 use Rattle.std.proofs.lemmas.List.Elements.{All-cons}
 use Rattle.span_model.specs.Columns.{Columns, set_of}
@@ -14,7 +14,6 @@ use Rattle.attack_model.specs.declared.attack.Listing.TheVariants.{Probes, Large
 use Rattle.attack_model.specs.declared.attack.Probe.{Probe as Listed}
 use Rattle.attack_model.specs.declared.attack.Step.{Step}
 use Rattle.attack_probes.specs.Derivations.{IsSound}
-use Rattle.attack_model.specs.Derivations.{step_at, AreUses, are_uses}
 use Rattle.attack_probes.specs.Listings.{probes_of, Lists, HoldsBy}
 use Rattle.attack_model.specs.Ranges.{InRange, IsListing, probe_of}
 use Rattle.attack_model.specs.declared.attack.TheConstants.{MAX_PROBES}

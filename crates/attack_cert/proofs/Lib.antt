@@ -1,5 +1,6 @@
 -- The theory behind derivations.
 pub mod Those
+pub mod Sums
 pub mod Counting
 pub mod Levelling
 pub mod Supporting

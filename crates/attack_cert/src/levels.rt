@@ -1,5 +1,6 @@
 // The steps of a leak, level by level.
-ghost use Rattle.std.specs.Prelude.{◌≡◌, ◌≢◌, ◌<◌, ◌≤◌, ◌*◌, ◌^◌, ℕ, ◌++◌, ◌∷◌, [], length, map, All, IfOk, OnOk, IfSome, MatchOption};
+ghost use Rattle.std.specs.Bool.{MatchBool, OnTrue};
+ghost use Rattle.std.specs.Prelude.{slice_index_or, ◌≡◌, ◌≢◌, ◌<◌, ◌≤◌, ◌*◌, ◌^◌, ℕ, ◌++◌, ◌∷◌, [], length, map, All, IfOk, OnOk, IfSome, MatchOption};
 ghost use Rattle.span_model.specs.Columns.{set_of, sets_of, empty, ◌△◌};
 ghost use Rattle.span_model.specs.Span.{InSpan, SameSpan};
 ghost use Rattle.span_model.specs.Closure.{co_operands, IsClosed};
@@ -85,7 +86,63 @@ fn remainder(alloc: Global, span: &Span, row: &BitRow) -> Result<BitRow, AllocEr
     Ok(left)
 }
 
-// Which of the pending operands span the leak with the span of what is known.
+// Whether the greatest columns of two rows show that their sum is not in the span.
+fn lead_apart(span: &Span, a: &BitRow, b: &BitRow) -> bool
+    ensures { OnTrue result (¬ InSpan (row_sets span.now) (set_of a.now △ set_of b.now)) }
+{
+    match (a.last(), b.last()) {
+        (Some(c), Some(d)) if c < d => !span.has_lead(d),
+        (Some(c), Some(d)) if d < c => !span.has_lead(c),
+        _ => false,
+    }
+}
+
+// Whether the sum of two rows is in the span. Where their greatest columns tell, it takes no memory.
+fn holds_sum(
+    alloc: Global,
+    span: &Span,
+    a: &BitRow,
+    b: &BitRow,
+    scratch: &mut BitRow,
+) -> Result<bool, AllocError>
+    requires a { length a.now ≡ span.now.columns }
+    requires b { length b.now ≡ span.now.columns }
+    requires scratch { length scratch.old ≡ span.now.columns }
+    ensures answer { IfOk result (λ holds. MatchBool holds
+        (InSpan (row_sets span.now) (set_of a.now △ set_of b.now)) (¬ InSpan (row_sets span.now) (set_of a.now △ set_of b.now))) }
+    ensures scratch { length scratch.new ≡ length scratch.old }
+{
+    if lead_apart(span, a, b) {
+        return Ok(false);
+    }
+    let mut sum = a.copy(alloc)?;
+    sum.add(b);
+    Ok(span.contains(&sum, scratch))
+}
+
+// Whether rows span with the span what is left of the leak, which the span does not.
+fn spans_left(
+    alloc: Global,
+    span: &Span,
+    rows: &[BitRow],
+    left: &BitRow,
+    scratch: &mut BitRow,
+) -> Result<bool, AllocError>
+    requires rows { (k : ℕ) → k < length rows.now → length (slice_index_or rows.now k []) ≡ span.now.columns }
+    requires left { length left.now ≡ span.now.columns }
+    requires outside { ¬ InSpan (row_sets span.now) (set_of left.now) }
+    requires scratch { length scratch.old ≡ span.now.columns }
+    ensures answer { IfOk result (λ spans. MatchBool spans
+        (InSpan (sets_of rows.now ++ row_sets span.now) (set_of left.now)) (¬ InSpan (sets_of rows.now ++ row_sets span.now) (set_of left.now))) }
+    ensures scratch { length scratch.new ≡ length scratch.old }
+{
+    if let [row] = rows {
+        return holds_sum(alloc, span, row, left, scratch);
+    }
+    span.spans_with(alloc, rows, left)
+}
+
+// Which of the pending operands span the leak with the span of what is known, which does not.
 fn next_level(
     alloc: Global,
     view: &View,
@@ -95,15 +152,17 @@ fn next_level(
 ) -> Result<Split, AllocError>
     requires leak { length leak.now ≡ length view.now.columns }
     requires span { span.now.columns ≡ length view.now.columns }
+    requires outside { ¬ InSpan (row_sets span.now) (set_of leak.now) }
     requires products { All (λ operand. operand.product < length view.now.products) pending.now }
     ensures { IfOk result (λ split. IsSplit (products_of view.now) (set_of leak.now) (row_sets span.now) pending.now split.level.items split.rest.items) }
 {
     // reduced once, so that no operand's test reduces the leak by the whole span again
     let left = remainder(alloc, span, leak)?;
+    let mut scratch = left.copy(alloc)?;
     let mut level = Vec::new(alloc);
     let mut rest = Vec::new(alloc);
     for operand in pending {
-        let spans = span.spans_with(alloc, view.operand(*operand), &left)?;
+        let spans = spans_left(alloc, span, view.operand(*operand), &left, &mut scratch)?;
         if spans {
             level.push(*operand)?;
         } else {

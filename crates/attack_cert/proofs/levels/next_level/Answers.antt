@@ -25,12 +25,19 @@ left_of_leak : (rows known : List (Columns ℕ)) (leak left : Columns ℕ) → I
 left_of_leak rows known leak left same h =
     in_as (rows ++ known) (△_cancel leak left) (in_sum (rows ++ known) leak (leak △ left) h (in_front rows known (leak △ left) same))
 
+pub spans_left-requires-clause-outside : goal.spans_left-requires-clause-outside
+spans_left-requires-clause-outside c inside =
+    let known = row_sets c.args.span.now in
+    c.requires.outside (in_as known (△_cancel_right (set_of c.args.leak.now) (set_of c.in_ok-left.left))
+    (in_sum known (set_of c.args.leak.now △ set_of c.in_ok-left.left) (set_of c.in_ok-left.left) c.in_ok-left.ensures.same inside))
+
 pub loop-operand-init : goal.loop-operand-init
 loop-operand-init c =
     let P : Step → Type 0 = IsSpanned (products_of c.args.view.now) (set_of c.args.leak.now) (row_sets c.args.span.now) in
     record {
       spanned = subst (λ (r : List Operand). AreThose P [] (operand_steps r)) (sym c.new-level.ensures.items) none;
       others = subst (λ (r : List Operand). AreThose (λ step. ¬ P step) [] (operand_steps r)) (sym c.new-rest.ensures.items) none;
+      scratch = ap length c.in_ok-scratch.ensures ∙ c.in_ok-left.ensures.columns ∙ c.requires.leak ∙ sym c.requires.span;
     }
 
 pub loop-operand-preserved : goal.loop-operand-preserved
@@ -47,7 +54,7 @@ loop-operand-preserved c =
     let known = row_sets c.args.span.now in
     let A : Type 0 = InSpan (near ++ known) (set_of c.args.leak.now) in
     let B : Type 0 = InSpan (near ++ known) (set_of c.in_ok-left.left) in
-    let told : MatchBool c.in_ok-spans.spans B (¬ B) = c.in_ok-spans.ensures in
+    let told : MatchBool c.in_ok-spans.spans B (¬ B) = c.in_ok-spans.ensures.answer in
     let same : InSpan known (set_of c.args.leak.now △ set_of c.in_ok-left.left) = c.in_ok-left.ensures.same in
     let level = c.loop-operand.level.items in
     let rest = c.loop-operand.rest.items in
@@ -59,6 +66,7 @@ loop-operand-preserved c =
           let level_is : c.if-spans.level.items ≡ level ++ t ∷ [] = ap (λ (v : Vec Operand Global). v.items) w.level-is ∙ w.in_ok-push.ensures.items in
           let rest_is : c.if-spans.rest.items ≡ rest = ap (λ (v : Vec Operand Global). v.items) w.rest-is in
           record {
+            scratch = c.in_ok-spans.ensures.scratch ∙ c.loop-operand.invariant.scratch;
             spanned = subst (λ (r : List Operand). AreThose P (operand_steps upto) (operand_steps r)) (sym level_is)
                 (those_more P c.args.pending.now level i t within is c.loop-operand.invariant.spanned p);
             others = subst (λ (r : List Operand). AreThose N (operand_steps upto) (operand_steps r)) (sym rest_is)
@@ -71,6 +79,7 @@ loop-operand-preserved c =
           let level_is : c.if-spans.level.items ≡ level = ap (λ (v : Vec Operand Global). v.items) w.level-is in
           let rest_is : c.if-spans.rest.items ≡ rest ++ t ∷ [] = ap (λ (v : Vec Operand Global). v.items) w.rest-is ∙ w.in_ok-push-2.ensures.items in
           record {
+            scratch = c.in_ok-spans.ensures.scratch ∙ c.loop-operand.invariant.scratch;
             spanned = subst (λ (r : List Operand). AreThose P (operand_steps upto) (operand_steps r)) (sym level_is)
                 (others_more P c.args.pending.now level i t within is c.loop-operand.invariant.spanned n);
             others = subst (λ (r : List Operand). AreThose N (operand_steps upto) (operand_steps r)) (sym rest_is)

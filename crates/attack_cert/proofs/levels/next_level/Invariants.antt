@@ -1,4 +1,4 @@
-use Rattle.std.proofs.Common.{take}
+use Rattle.std.proofs.Common.{◌≡◌, length, take}
 use Rattle.span_model.specs.Columns.{set_of}
 use Rattle.gf2_span.specs.Basis.{row_sets}
 use Rattle.linear_view.specs.View.{products_of}
@@ -8,6 +8,7 @@ use Rattle.attack_cert.proofs.levels.next_level.Given as goal
 
 abbrev pub invariant-loop-operand : goal.invariant-loop-operand
 invariant-loop-operand l = record {
+  scratch : length l.scratch ≡ l.span.columns;
   spanned : AreThose (IsSpanned (products_of l.view) (set_of l.leak) (row_sets l.span)) (operand_steps (take l.operand-index l.pending)) (operand_steps l.level.items);
   others : AreThose (λ step. ¬ IsSpanned (products_of l.view) (set_of l.leak) (row_sets l.span) step) (operand_steps (take l.operand-index l.pending)) (operand_steps l.rest.items);
 }

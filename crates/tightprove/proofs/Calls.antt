@@ -7,14 +7,15 @@ use Rattle.std.proofs.lemmas.List.{get_or_past, length-replicate, get_or-replica
 use Rattle.std.proofs.lemmas.Bool.{cases_lt}
 use Rattle.span_model.specs.Columns.{Columns, empty, set_of, sets_of}
 use Rattle.span_model.specs.Span.{InSpan, Spans, SameSpan, IsMeet}
-use Rattle.span_model.proofs.Members.{in_none, spans_none}
+use Rattle.span_model.proofs.Members.{in_none, in_behind}
 use Rattle.gf2_span.specs.Basis.{Basis, row_sets}
-use Rattle.tightprove.specs.Classes.{MeetEmpty}
+use Rattle.tightprove.specs.Classes.{MeetEmpty, LeadsApart}
 use Rattle.tightprove.specs.Growth.{MeetsWithin, HasRowOutside, IsGrowth, IsGrown}
 use Rattle.tightprove.specs.declared.class.Class.{Class}
 use Rattle.tightprove.specs.declared.growth.Growth.{Growth}
 use Rattle.gf2_span.proofs.Leads.{row_in, all_within}
 use Rattle.tightprove.proofs.Closures.{grown_none}
+use Rattle.tightprove.proofs.Gathering.{last_some}
 
 -- ---- rows in a span, one by one
 
@@ -28,17 +29,17 @@ same_both span other rows n false Other past inside same within = tt
 -- ---- a growing span at its start
 
 pub growth_starts : (classes : List Class) (candidates : Basis) (growth : Growth) (columns n : ℕ) → candidates.columns ≡ columns
-    → growth.span ≡ record { columns = columns; rows = [] } → growth.joint ≡ candidates → growth.taken ≡ replicate n false → n ≡ length classes
+    → growth.span ≡ record { columns = columns; rows = [] } → growth.rest ≡ candidates → growth.taken ≡ replicate n false → n ≡ length classes
     → IsGrowth classes candidates growth
-growth_starts classes candidates growth columns n wide span joint taken count =
-    let P : Basis → Type 0 = λ b. Spans (row_sets b) (row_sets candidates) in
-    let Q : Basis → Type 0 = λ b. Spans (row_sets growth.joint) (row_sets b) in
+growth_starts classes candidates growth columns n wide span rest taken count =
+    let P : Basis → Type 0 = λ b. Spans (row_sets b ++ row_sets growth.span) (row_sets candidates) in
+    let Q : Basis → Type 0 = λ b. LeadsApart (row_sets growth.rest) (row_sets b) in
     record {
       columns = ap (λ (b : Basis). b.columns) span ∙ sym wide;
-      joint_columns = ap (λ (b : Basis). b.columns) joint;
+      rest_columns = ap (λ (b : Basis). b.columns) rest;
       flags = ap length taken ∙ length-replicate n false ∙ count;
-      candidates_in = subst P (sym joint) (λ v m. m);
-      span_in = subst Q (sym span) (spans_none (row_sets growth.joint));
+      candidates_in = subst P (sym rest) (in_behind (row_sets candidates) (row_sets growth.span));
+      apart = subst Q (sym span) (λ v c m last w none at. last_some w c at (in_none w none));
       taken = λ i j on partner. absurd (let off : get_or growth.taken i false ≡ false = ap (λ (x : List Bool). get_or x i false) taken ∙ none n i in cc (off, on));
     }
   where

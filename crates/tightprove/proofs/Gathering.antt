@@ -2,7 +2,7 @@
 use Rattle.std.proofs.Common.{◌≡◌, ◌⊎◌, inl, inr, ℕ, ◌+◌, ◌*◌, ◌-◌, ◌<◌, ◌≤◌, suc, Bool, true, false, not, cond, List, [], ◌∷◌, ◌++◌, length, get_or, set, take, refl, sym, ap, ◌∙◌, subst, arith, Option, Some, None, MatchOption}
 use Rattle.std.specs.Prelude.{◌↔◌}
 use Rattle.std.specs.List.{Contains, All, slice_get, count_by, sum_by}
-use Rattle.std.specs.Prelude.{replicate}
+use Rattle.std.specs.Prelude.{replicate, IfSome}
 use Rattle.std.specs.Bool.{OnTrue}
 use Rattle.std.proofs.lemmas.List.Sums.{sum_by-set}
 use Rattle.std.proofs.lemmas.List.Folds.{sum_by-replicate}
@@ -17,7 +17,7 @@ use Rattle.span_model.specs.Attack.{Product, product_at}
 use Rattle.span_model.specs.Closure.{Step, Side, on_left, on_right, operand, co_operand}
 use Rattle.gf2_span.specs.Rows.{IsLast, HaveOwnLeads}
 use Rattle.linear_view.specs.View.{HasRows}
-use Rattle.tightprove.specs.Classes.{class_at, class_rows, IsPartner, StepBetween, AreStepsOf, AreClasses, AreByLead, HasClassesOf, HasPartnersAnd, HasInLanes, AreListed, LeadsMember}
+use Rattle.tightprove.specs.Classes.{class_at, class_rows, IsPartner, StepBetween, AreStepsOf, AreClasses, AreByLead, HasClassesOf, HasPartnersAnd, HasInLanes, AreListed}
 use Rattle.tightprove.specs.declared.class.Class.{Class}
 use Rattle.tightprove.proofs.Closures.{partner_of}
 
@@ -458,13 +458,19 @@ lanes_done table leads flags more low n lt before kept here c i h high lane = el
   | inr e ↦ (let P : ℕ → Type 0 = λ x. low ≤ x → (k : ℕ) → Contains (get_or table x []) k → get_or more k false ≡ true in subst P e here high i lane)
 ]
 
--- one more lead that is tested for the least one outside
-pub outside_more : (within : List (Columns ℕ)) (leads : List ℕ) (n lead low lower : ℕ) → n < length leads → lead ≡ get_or leads n 0
-    → ((c : ℕ) → Contains (take n leads) c → c < low → LeadsMember within c) → lower ≤ low → (lead < lower → LeadsMember within lead)
-    → (c : ℕ) → Contains (take (n + 1) leads) c → c < lower → LeadsMember within c
-outside_more within leads n lead low lower lt is before less here c h under = elim (taken_cases leads n c lt h) [
-  | inl old ↦ before c old (omega arith)
-  | inr e ↦ (let P : ℕ → Type 0 = λ x. x < lower → LeadsMember within x in subst P (is ∙ e) here under)
+-- one more row whose greatest column is taken into the least one
+pub lower_more : (rows : List (List Bool)) (n low lower : ℕ) (lead : Option ℕ) → n < length rows
+    → ((j c : ℕ) → j < n → IsLast (set_of (get_or rows j [])) c → low ≤ c)
+    → ((c : ℕ) → n < length rows → IsLast (set_of (get_or rows n [])) c → lead ≡ Some c)
+    → lower ≤ low → IfSome lead (λ c. lower ≤ c)
+    → (j c : ℕ) → j < n + 1 → IsLast (set_of (get_or rows j [])) c → lower ≤ c
+lower_more rows n low lower lead within before value less at j c h last = elim (cases_lt j n) [
+  | inl old ↦ omega (arith, before j c old last)
+  | inr here ↦
+      let e : j ≡ n = omega arith in
+      let P : ℕ → Type 0 = λ k. IsLast (set_of (get_or rows k [])) c in
+      let Q : Option ℕ → Type 0 = λ o. IfSome o (λ x. lower ≤ x) in
+      subst Q (value c within (subst P e last)) at
 ]
 
 -- ---- products of a view

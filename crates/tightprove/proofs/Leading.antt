@@ -1,17 +1,17 @@
 -- Rows whose greatest columns tell what they have in common with a span.
-use Rattle.std.proofs.Common.{◌≡◌, ◌⊎◌, inl, inr, ℕ, ◌+◌, ◌<◌, ◌≤◌, zero, suc, Bool, true, false, not, List, [], ◌∷◌, length, get_or, refl, sym, ap, ◌∙◌, subst, arith, suc-le-suc, MatchBool}
+use Rattle.std.proofs.Common.{◌≡◌, ◌⊎◌, inl, inr, ℕ, ◌+◌, ◌<◌, ◌≤◌, zero, suc, Bool, true, false, not, List, [], ◌∷◌, ◌++◌, length, get_or, refl, sym, ap, ◌∙◌, subst, arith, suc-le-suc, MatchBool}
 use Rattle.std.specs.Bool.{beq, OnFalse}
 use Rattle.std.specs.List.{Contains}
 use Rattle.std.proofs.lemmas.Bool.{cases_lt}
-use Rattle.std.proofs.lemmas.List.{get_or_default, get_or-map, length-map}
+use Rattle.std.proofs.lemmas.List.{get_or_default, get_or-map, get_or_past, length-map}
 use mathlib.Core.Path.{fun_ext}
 use Rattle.span_model.specs.Columns.{Columns, empty, ◌△◌, set_of, sets_of}
 use Rattle.span_model.specs.Span.{InSpan, Spans}
-use Rattle.span_model.proofs.Sets.{△_cancel_right}
+use Rattle.span_model.proofs.Sets.{△_cancel_right, △-empty, empty-△}
 use Rattle.span_model.proofs.Members.{in_as, in_none, in_cases, in_parts, in_sum, empty_in, all_in}
 use Rattle.gf2_span.specs.Rows.{IsLast, HaveOwnLeads, LeadsNoMember, LeadsAreKept}
 use Rattle.gf2_span.specs.Basis.{Basis, row_sets}
-use Rattle.tightprove.specs.Classes.{class_rows, AreClasses, AreByLead, AreListed, AreNear, MeetOnly, LeadsMember}
+use Rattle.tightprove.specs.Classes.{class_rows, AreClasses, AreByLead, AreListed, AreNear, MeetOnly, LeadsApart}
 use Rattle.tightprove.specs.Growth.{MeetsWithin, LeadsWithin}
 use Rattle.tightprove.specs.declared.class.Class.{Class}
 use Rattle.tightprove.proofs.Gathering.{last_same, last_some}
@@ -82,71 +82,148 @@ leads_within rows joint span law own held each v m h =
     let bound = all_end_before rows own.some in
     in_as span p.4 (in_sum span p.0 p.1 (common_within rows joint span law own held each bound.0 p.0 (bound.1 p.0 p.2) p.2 shared) p.3)
 
--- ---- classes that are near a span
+-- the members of the span of rows of bits all end before some column
+bits_end_before : (rows : List (List Bool)) → (n : ℕ) × ((v : Columns ℕ) → InSpan (sets_of rows) v → EndsBefore v n)
+bits_end_before [] = (0, λ v m c past. ap (λ (w : Columns ℕ). w c) (in_none v m))
+bits_end_before (row ∷ rows) =
+    let rest = bits_end_before rows in (
+      length row + rest.0,
+      λ v m c past. elim (in_cases (set_of row) (sets_of rows) v m) [
+        | inl x ↦ rest.1 v x c (omega arith)
+        | inr x ↦ sym (ap (λ (w : Columns ℕ). w c) x.2) ∙ ap (λ b. not (beq b (x.0 c))) (get_or_past row c false (omega arith)) ∙ ap (λ b. not (beq false b)) (rest.1 x.0 x.1 c (omega arith))
+      ],
+    )
 
--- a member that ends before some column is a member of the others, where each of its possible greatest columns is that of a member of the others
-below_next : (rows within : List (Columns ℕ)) (low : ℕ) → Spans rows within → ((v : Columns ℕ) (c : ℕ) → InSpan rows v → IsLast v c → c < low → LeadsMember within c)
-    → (n : ℕ) → ((w : Columns ℕ) → EndsBefore w n → ((c : ℕ) → IsLast w c → c < low) → InSpan rows w → InSpan within w)
-    → (v : Columns ℕ) → EndsBefore v (n + 1) → ((c : ℕ) → IsLast v c → c < low) → InSpan rows v → (b : Bool) → v n ≡ b → InSpan within v
-below_next rows within low held led n less v ends under m false off = less v (λ c past. elim (cases_lt n c) [
+-- a set that ends before some column is empty or has a greatest column
+ended_next : (v : Columns ℕ) (n : ℕ) → EndsBefore v (n + 1) → (EndsBefore v n → (v ≡ empty) ⊎ ((c : ℕ) × IsLast v c)) → (b : Bool) → v n ≡ b
+    → (v ≡ empty) ⊎ ((c : ℕ) × IsLast v c)
+ended_next v n ends less true on = inr (n, record { there = on; none_after = λ c after. ends c (omega arith) })
+ended_next v n ends less false off = less (λ c past. elim (cases_lt n c) [
   | inl after ↦ ends c (omega arith)
   | inr other ↦ (let e : n ≡ c = omega arith in let P : ℕ → Type 0 = λ k. v k ≡ false in subst P e off)
-]) under m
-below_next rows within low held led n less v ends under m true on =
-    let last : IsLast v n = record { there = on; none_after = λ c after. ends c (omega arith) } in
-    let fits : n < low = under n last in
-    let p = led v n m last fits in
-    let shorter : EndsBefore (v △ p.0) n = both_end v p.0 n last p.2 in
-    let left : InSpan within (v △ p.0) = less (v △ p.0) shorter (λ d at. elim (cases_lt d n) [
-      | inl lt ↦ omega arith
-      | inr ge ↦ absurd (cc (shorter d ge, at.there))
-    ]) (in_sum rows v p.0 m (held p.0 p.1)) in
-    in_as within (△_cancel_right v p.0) (in_sum within (v △ p.0) p.0 left p.1)
+])
 
-below_within : (rows within : List (Columns ℕ)) (low : ℕ) → Spans rows within → ((v : Columns ℕ) (c : ℕ) → InSpan rows v → IsLast v c → c < low → LeadsMember within c)
-    → (n : ℕ) (v : Columns ℕ) → EndsBefore v n → ((c : ℕ) → IsLast v c → c < low) → InSpan rows v → InSpan within v
-below_within rows within low held led zero v ends under m = in_as within (fun_ext (λ c. sym (ends c (omega arith)))) (empty_in within)
-below_within rows within low held led (suc n) v ends under m =
-    below_next rows within low held led n (below_within rows within low held led n) v (λ c past. ends c (omega arith)) under m (v n) refl
+ended_last : (v : Columns ℕ) (n : ℕ) → EndsBefore v n → (v ≡ empty) ⊎ ((c : ℕ) × IsLast v c)
+ended_last v zero ends = inl (fun_ext (λ c. ends c (omega arith)))
+ended_last v (suc n) ends = ended_next v n (λ c past. ends c (omega arith)) (ended_last v n) (v n) refl
 
--- a class that no list of a greatest column of the span names, from the least column on that leads no member of the others, has only members of
--- the others in common with the span
-pub near_ends : (columns : ℕ) (classes : List Class) (table : List (List ℕ)) (span : Basis) (within : List (Columns ℕ)) (leads : List ℕ) (low : ℕ) (flags : List Bool) (near : List ℕ) → LeadsAreKept
-    → AreClasses columns classes → AreByLead classes table → HaveOwnLeads (row_sets span) → Spans (row_sets span) within
-    → ((k c : ℕ) → k < length span.rows → IsLast (set_of (get_or span.rows k [])) c → Contains leads c)
-    → ((c : ℕ) → Contains leads c → c < low → LeadsMember within c)
-    → ((c i : ℕ) → Contains leads c → low ≤ c → Contains (get_or table c []) i → get_or flags i false ≡ true)
-    → AreListed (length classes) flags near → AreNear classes (row_sets span) within near
-near_ends columns classes table span within leads low flags near law are by_lead own held all outside lanes listed = record {
+-- of two sets with different greatest columns, the greater one is that of the sum
+first_leads : (a b : Columns ℕ) (c d : ℕ) → IsLast a c → IsLast b d → d < c → IsLast (a △ b) c
+first_leads a b c d at_c at_d less = record {
+  there = ap (λ x. not (beq x (b c))) at_c.there ∙ ap (λ x. not (beq true x)) (at_d.none_after c less);
+  none_after = λ k h. ap (λ x. not (beq x (b k))) (at_c.none_after k h) ∙ ap (λ x. not (beq false x)) (at_d.none_after k (omega arith));
+}
+
+second_leads : (a b : Columns ℕ) (c d : ℕ) → IsLast a c → IsLast b d → c < d → IsLast (a △ b) d
+second_leads a b c d at_c at_d less = record {
+  there = ap (λ x. not (beq x (b d))) (at_c.none_after d less) ∙ ap (λ x. not (beq false x)) at_d.there;
+  none_after = λ k h. ap (λ x. not (beq x (b k))) (at_c.none_after k (omega arith)) ∙ ap (λ x. not (beq false x)) (at_d.none_after k h);
+}
+
+-- a member of both spans together is in the span, or has a greatest column: that of a member of the rest, or a greater one of a member of the span
+IsLed : (rest span : List (Columns ℕ)) → Columns ℕ → Type 0
+IsLed rest span v =
+    InSpan span v ⊎ ((x : Columns ℕ) × (c : ℕ) × (d : ℕ) × InSpan rest x × IsLast x c × IsLast v d × (c ≤ d) × ((c ≡ d) ⊎ ((y : Columns ℕ) × InSpan span y × IsLast y d)))
+
+led_both : (rest span : List (List Bool)) → LeadsApart (sets_of rest) (sets_of span) → (v : Columns ℕ) → InSpan (sets_of rest ++ sets_of span) v
+    → IsLed (sets_of rest) (sets_of span) v
+unfolding IsLed
+led_both rest span apart v m =
+    let p = in_parts (sets_of rest) (sets_of span) v m in
+    let at_x = bits_end_before rest in
+    let at_y = bits_end_before span in
+    let L : Columns ℕ → ℕ → Type 0 = λ u k. IsLast u k in
+    elim (ended_last p.0 at_x.0 (at_x.1 p.0 p.2)) [
+      | inl none ↦ inl (in_as (sets_of span) (sym (empty-△ p.1) ∙ ap (λ (u : Columns ℕ). u △ p.1) (sym none) ∙ p.4) p.3)
+      | inr x ↦ elim (ended_last p.1 at_y.0 (at_y.1 p.1 p.3)) [
+        | inl none ↦
+            let is : p.0 ≡ v = sym (△-empty p.0) ∙ ap (λ (u : Columns ℕ). p.0 △ u) (sym none) ∙ p.4 in
+            let P : Columns ℕ → Type 0 = λ u. IsLast u x.0 in
+            inr (p.0, x.0, x.0, p.2, x.1, subst P is x.1, omega arith, inl refl)
+        | inr y ↦ elim (cases_lt y.0 x.0) [
+          | inl less ↦
+              let P : Columns ℕ → Type 0 = λ u. IsLast u x.0 in
+              inr (p.0, x.0, x.0, p.2, x.1, subst P p.4 (first_leads p.0 p.1 x.0 y.0 x.1 y.1 less), omega arith, inl refl)
+          | inr ge ↦ elim (cases_lt x.0 y.0) [
+            | inl less ↦
+                let P : Columns ℕ → Type 0 = λ u. IsLast u y.0 in
+                inr (p.0, x.0, y.0, p.2, x.1, subst P p.4 (second_leads p.0 p.1 x.0 y.0 x.1 y.1 less), omega arith, inr (p.1, p.3, y.1))
+            | inr same ↦
+                let e : y.0 ≡ x.0 = omega arith in
+                let P : ℕ → Type 0 = λ k. IsLast p.1 k in
+                absurd (apart p.0 x.0 p.2 x.1 p.1 p.3 (subst P e y.1))
+          ]
+        ]
+      ]
+    ]
+
+-- a column that leads a member of neither leads none of both together
+pub leads_neither : (rest span : List (List Bool)) (c : ℕ) → LeadsApart (sets_of rest) (sets_of span) → LeadsNoMember (sets_of rest) c → LeadsNoMember (sets_of span) c
+    → LeadsNoMember (sets_of rest ++ sets_of span) c
+unfolding IsLed
+leads_neither rest span c apart of_rest of_span v m last = elim (led_both rest span apart v m) [
+  | inl inside ↦ of_span v inside last
+  | inr (x, a, d, member, at_x, at_v, above, which) ↦
+      let e : d ≡ c = last_same v d c at_v last in
+      elim which [
+        | inl same ↦ (let P : ℕ → Type 0 = λ k. IsLast x k in of_rest x member (subst P (same ∙ e) at_x))
+        | inr (y, inside, at_y) ↦ (let P : ℕ → Type 0 = λ k. IsLast y k in of_span y inside (subst P e at_y))
+      ]
+]
+
+-- ---- classes that are near a span
+
+-- a class that no list of a greatest column of the rest or the span names, from the least one of the rest on, has only members of the span in
+-- common with both together
+pub near_ends : (columns : ℕ) (classes : List Class) (table : List (List ℕ)) (rest span : Basis) (low : ℕ) (flags : List Bool) (near : List ℕ) → LeadsAreKept
+    → AreClasses columns classes → AreByLead classes table → HaveOwnLeads (row_sets rest) → HaveOwnLeads (row_sets span) → LeadsApart (row_sets rest) (row_sets span)
+    → ((k c : ℕ) → k < length rest.rows → IsLast (set_of (get_or rest.rows k [])) c → low ≤ c)
+    → ((k c i : ℕ) → k < length rest.rows → IsLast (set_of (get_or rest.rows k [])) c → low ≤ c → Contains (get_or table c []) i → get_or flags i false ≡ true)
+    → ((k c i : ℕ) → k < length span.rows → IsLast (set_of (get_or span.rows k [])) c → low ≤ c → Contains (get_or table c []) i → get_or flags i false ≡ true)
+    → AreListed (length classes) flags near → AreNear classes (row_sets rest ++ row_sets span) (row_sets span) near
+unfolding IsLed
+near_ends columns classes table rest span low flags near law are by_lead rest_own own apart least rest_lanes lanes listed = record {
   few = omega (arith, listed.once);
   numbers = listed.numbers;
   others = λ i. at i (get_or flags i false) refl;
 }
   where
-    lead_listed : (v : Columns ℕ) (c : ℕ) → InSpan (row_sets span) v → IsLast v c → Contains leads c
-    lead_listed v c m last =
-        let q = law (row_sets span) own v m (last_some v c last) in
-        let inside : q.0 < length span.rows = omega (arith, q.2, length-map span.rows set_of) in
+    row_led : (rows : List (List Bool)) → HaveOwnLeads (sets_of rows) → (v : Columns ℕ) (c : ℕ) → InSpan (sets_of rows) v → IsLast v c
+        → (k : ℕ) × (k < length rows) × IsLast (set_of (get_or rows k [])) c
+    row_led rows of_rows v c m last =
+        let q = law (sets_of rows) of_rows v m (last_some v c last) in
+        let inside : q.0 < length rows = omega (arith, q.2, length-map rows set_of) in
         let L : Columns ℕ → Type 0 = λ u. IsLast u q.1 in
-        let P : ℕ → Type 0 = λ k. Contains leads k in
-        subst P (last_same v q.1 c q.4 last) (all q.0 q.1 inside (subst L (get_or-map set_of span.rows q.0 [] empty inside) q.3))
+        let P : ℕ → Type 0 = λ k. IsLast (set_of (get_or rows q.0 [])) k in
+        (q.0, inside, subst P (last_same v q.1 c q.4 last) (subst L (get_or-map set_of rows q.0 [] empty inside) q.3))
 
-    free : (i : ℕ) → get_or flags i false ≡ false → (v : Columns ℕ) → InSpan (class_rows classes i) v → InSpan (row_sets span) v → (c : ℕ) → IsLast v c → c < low
-    free i off v a m c last = elim (cases_lt c low) [
-      | inl under ↦ under
-      | inr high ↦
-          let p = law (class_rows classes i) (are.leads i) v a (last_some v c last) in
-          let P : ℕ → Type 0 = λ k. Contains (get_or table k []) i in
-          let lane : Contains (get_or table c []) i = subst P (last_same v p.1 c p.4 last) (by_lead.listed i p.0 p.1 p.2 p.3) in
-          let on : get_or flags i false ≡ true = lanes c i (lead_listed v c m last) high lane in
-          absurd (cc (on, off))
+    named : (i c : ℕ) → get_or flags i false ≡ false → (v : Columns ℕ) → InSpan (class_rows classes i) v → IsLast v c → Contains (get_or table c []) i
+    named i c off v a last =
+        let p = law (class_rows classes i) (are.leads i) v a (last_some v c last) in
+        let P : ℕ → Type 0 = λ k. Contains (get_or table k []) i in
+        subst P (last_same v p.1 c p.4 last) (by_lead.listed i p.0 p.1 p.2 p.3)
+
+    within : (i : ℕ) → get_or flags i false ≡ false → (v : Columns ℕ) → InSpan (class_rows classes i) v → InSpan (row_sets rest ++ row_sets span) v → InSpan (row_sets span) v
+    within i off v a m = elim (led_both rest.rows span.rows apart v m) [
+      | inl inside ↦ inside
+      | inr (x, c, d, member, at_x, at_v, above, which) ↦
+          let r = row_led rest.rows rest_own x c member at_x in
+          let high : low ≤ c = least r.0 c r.1 r.2 in
+          elim which [
+            | inl same ↦
+                let P : ℕ → Type 0 = λ k. IsLast v k in
+                let on : get_or flags i false ≡ true = rest_lanes r.0 c i r.1 r.2 high (named i c off v a (subst P (sym same) at_v)) in
+                absurd (cc (on, off))
+            | inr (y, inside, at_y) ↦
+                let s = row_led span.rows own y d inside at_y in
+                let on : get_or flags i false ≡ true = lanes s.0 d i s.1 s.2 (omega arith) (named i d off v a at_v) in
+                absurd (cc (on, off))
+          ]
     ]
 
-    at : (i : ℕ) (b : Bool) → get_or flags i false ≡ b → Contains near i ⊎ MeetOnly (class_rows classes i) (row_sets span) within
+    at : (i : ℕ) (b : Bool) → get_or flags i false ≡ b → Contains near i ⊎ MeetOnly (class_rows classes i) (row_sets rest ++ row_sets span) (row_sets span)
     at i true on = inl (listed.listed i on)
-    at i false off = inr (λ v a m.
-        let bound = all_end_before (row_sets span) own.some in
-        below_within (row_sets span) within low held (λ w c n last under. outside c (lead_listed w c n last) under) bound.0 v (bound.1 v m) (free i off v a m) m)
+    at i false off = inr (within i off)
 
 -- ---- rows that lead outside
 

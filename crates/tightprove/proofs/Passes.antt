@@ -4,10 +4,9 @@ use Rattle.std.specs.List.{count_by, sum_by}
 use Rattle.std.proofs.lemmas.List.{length-append, get_or_default, get_or_append_left, get_or-append_right, length-map}
 use Rattle.std.proofs.lemmas.List.Sums.{sum_by-set}
 use Rattle.std.proofs.lemmas.Bool.{cases_lt}
-use Rattle.span_model.specs.Columns.{Columns, empty, set_of}
-use Rattle.span_model.specs.Span.{InSpan, Spans, IsIndependent, IsMeet, IsSum}
-use Rattle.span_model.proofs.Sets.{△-empty, empty-△}
-use Rattle.span_model.proofs.Members.{empty_in}
+use Rattle.span_model.specs.Columns.{Columns, set_of}
+use Rattle.span_model.specs.Span.{InSpan, Spans, IsIndependent, IsMeet}
+use Rattle.span_model.proofs.Members.{in_front}
 use Rattle.gf2_span.specs.Basis.{Basis, row_sets}
 use Rattle.tightprove.specs.Classes.{class_rows, IsPartner, AreNear, MeetEmpty}
 use Rattle.tightprove.specs.Growth.{IsHull, HasRowOutside, IsSaturated, IsGrowth, MeetsNoMore, HoldsNoMore, left_over, span_at, IsInPieces, ArePieces}
@@ -56,7 +55,7 @@ hull_skips classes candidates near n before now false passed tested = (
 )
 
 hull_whole : (classes : List Class) (candidates : Basis) (near : List ℕ) (growth : Growth) → IsGrowth classes candidates growth
-    → AreNear classes (row_sets growth.joint) (row_sets growth.span) near → ((m : ℕ) → m < length near → MeetsNoMore classes candidates growth (get_or near m 0))
+    → AreNear classes (row_sets growth.rest ++ row_sets growth.span) (row_sets growth.span) near → ((m : ℕ) → m < length near → MeetsNoMore classes candidates growth (get_or near m 0))
     → IsHull classes (row_sets candidates) (row_sets growth.span)
 hull_whole classes candidates near growth is are tested i j partner = elim (are.others i) [
   | inl listed ↦
@@ -65,15 +64,15 @@ hull_whole classes candidates near growth is are tested i j partner = elim (are.
         | inl on ↦ inl (is.taken i j on partner)
         | inr within ↦ inr within
       ]
-  | inr apart ↦ inr (apart_within (row_sets candidates) (class_rows classes i) (row_sets growth.span) (row_sets growth.joint) is.candidates_in is.span_in apart)
+  | inr apart ↦ inr (apart_within (row_sets candidates) (class_rows classes i) (row_sets growth.span) (row_sets growth.rest ++ row_sets growth.span) is.candidates_in (in_front (row_sets growth.rest) (row_sets growth.span)) apart)
 ]
 
 pub hull_ends : (classes : List Class) (candidates : Basis) (near : List ℕ) (n : ℕ) (before now : Growth) (grew : Bool)
-    → HullPassed classes candidates near n before grew now → length near ≤ n → IsGrowth classes candidates now → AreNear classes (row_sets before.joint) (row_sets before.span) near
+    → HullPassed classes candidates near n before grew now → length near ≤ n → IsGrowth classes candidates now → AreNear classes (row_sets before.rest ++ row_sets before.span) (row_sets before.span) near
     → MatchBool grew (left_over now < left_over before) (IsHull classes (row_sets candidates) (row_sets now.span))
 hull_ends classes candidates near n before now true passed past is are = passed
 hull_ends classes candidates near n before now false passed past is are =
-    let P : Growth → Type 0 = λ g. AreNear classes (row_sets g.joint) (row_sets g.span) near in
+    let P : Growth → Type 0 = λ g. AreNear classes (row_sets g.rest ++ row_sets g.span) (row_sets g.span) near in
     hull_whole classes candidates near now is (subst P (sym passed.0) are) (λ m h. passed.1 m (omega arith))
 
 -- ---- a pass that grows the span
@@ -102,7 +101,7 @@ grow_skips classes candidates near n before now false passed tested = (
 )
 
 grow_whole : (classes : List Class) (candidates : Basis) (near : List ℕ) (growth : Growth) → IsGrowth classes candidates growth
-    → AreNear classes (row_sets growth.joint) (row_sets growth.span) near → ((m : ℕ) → m < length near → HoldsNoMore classes candidates growth (get_or near m 0))
+    → AreNear classes (row_sets growth.rest ++ row_sets growth.span) (row_sets growth.span) near → ((m : ℕ) → m < length near → HoldsNoMore classes candidates growth (get_or near m 0))
     → HasRowOutside candidates.rows (row_sets growth.span) → IsSaturated classes candidates (row_sets growth.span)
 grow_whole classes candidates near growth is are tested out i j partner = elim (are.others i) [
   | inl listed ↦
@@ -111,16 +110,16 @@ grow_whole classes candidates near growth is are tested out i j partner = elim (
         | inl on ↦ inl (is.taken i j on partner)
         | inr outside ↦ inr outside
       ]
-  | inr apart ↦ inr (apart_outside candidates (class_rows classes i) (row_sets growth.span) (row_sets growth.joint) is.candidates_in is.span_in apart out)
+  | inr apart ↦ inr (apart_outside candidates (class_rows classes i) (row_sets growth.span) (row_sets growth.rest ++ row_sets growth.span) is.candidates_in (in_front (row_sets growth.rest) (row_sets growth.span)) apart out)
 ]
 
 pub grow_ends : (classes : List Class) (candidates : Basis) (near : List ℕ) (n : ℕ) (before now : Growth) (grew : Bool)
-    → GrowPassed classes candidates near n before grew now → length near ≤ n → IsGrowth classes candidates now → AreNear classes (row_sets before.joint) (row_sets before.span) near
+    → GrowPassed classes candidates near n before grew now → length near ≤ n → IsGrowth classes candidates now → AreNear classes (row_sets before.rest ++ row_sets before.span) (row_sets before.span) near
     → HasRowOutside candidates.rows (row_sets before.span)
     → MatchBool grew (left_over now < left_over before) (IsSaturated classes candidates (row_sets now.span))
 grow_ends classes candidates near n before now true passed past is are out = passed
 grow_ends classes candidates near n before now false passed past is are out =
-    let P : Growth → Type 0 = λ g. AreNear classes (row_sets g.joint) (row_sets g.span) near in
+    let P : Growth → Type 0 = λ g. AreNear classes (row_sets g.rest ++ row_sets g.span) (row_sets g.span) near in
     let Q : Growth → Type 0 = λ g. HasRowOutside candidates.rows (row_sets g.span) in
     grow_whole classes candidates near now is (subst P (sym passed.0) are) (λ m h. passed.1 m (omega arith)) (subst Q (sym passed.0) out)
 
@@ -233,9 +232,9 @@ pieces_same classes candidates span near n pieces piece so_far apart ended free 
 }
 
 pub pieces_end : (classes : List Class) (candidates : Basis) (span joint : List (Columns ℕ)) (near : List ℕ) (n : ℕ) (pieces : List Basis)
-    → PiecesSoFar classes candidates span near n pieces → n ≡ length near → AreNear classes joint span near → IsSum joint (row_sets candidates) span
+    → PiecesSoFar classes candidates span near n pieces → n ≡ length near → AreNear classes joint span near → Spans joint (row_sets candidates) → Spans joint span
     → MeetEmpty (row_sets candidates) span → ArePieces classes candidates span pieces
-pieces_end classes candidates span joint near n pieces so_far past are sum apart = record {
+pieces_end classes candidates span joint near n pieces so_far past are of_candidates of_span apart = record {
   few = omega (arith, so_far.few, are.few, past);
   columns = so_far.columns;
   proper = so_far.proper;
@@ -244,9 +243,6 @@ pieces_end classes candidates span joint near n pieces so_far past are sum apart
         let e : get_or near listed.0 0 ≡ i = get_or_default near listed.0 0 i listed.1 ∙ listed.2 in
         let P : ℕ → Type 0 = λ k. IsPartner classes k j → Spans span (class_rows classes j) ⊎ IsInPieces candidates span pieces (class_rows classes k) in
         subst P e (so_far.parts listed.0 j (omega (arith, listed.1, past))) partner
-    | inr none ↦ inr (λ v c r. inl (apart v c (apart_within (row_sets candidates) (class_rows classes i) span joint
-        (λ u m. (sum u).1 (u, empty, m, empty_in span, △-empty u))
-        (λ u m. (sum u).1 (empty, u, empty_in (row_sets candidates), m, empty-△ u))
-        none v c r)))
+    | inr none ↦ inr (λ v c r. inl (apart v c (apart_within (row_sets candidates) (class_rows classes i) span joint of_candidates of_span none v c r)))
   ];
 }

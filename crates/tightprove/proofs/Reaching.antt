@@ -1,6 +1,5 @@
 -- Cosets of images, and leaks that do not reach the image 0.
-use Rattle.std.proofs.Common.{◌≡◌, ◌≢◌, ◌⊎◌, inl, inr, ℕ, ◌+◌, ◌<◌, ◌≤◌, zero, suc, Bool, true, false, not, List, [], ◌∷◌, ◌++◌, length, map, take, get_or, bit_xor, eqb, refl, sym, ap, ◌∙◌, subst, arith, Option, Some, None}
-use Rattle.std.specs.Bool.{OnTrue}
+use Rattle.std.proofs.Common.{◌≡◌, ◌⊎◌, inl, inr, ℕ, ◌+◌, ◌<◌, ◌≤◌, zero, suc, Bool, true, false, not, List, [], ◌∷◌, ◌++◌, length, map, take, get_or, bit_xor, eqb, refl, sym, ap, ◌∙◌, subst, arith, Some}
 use Rattle.std.specs.List.{Contains, IsAnyAnswer}
 use Rattle.std.specs.Prelude.{nat_eq}
 use Rattle.std.specs.HashMap.{get}
@@ -14,14 +13,14 @@ use Rattle.span_model.specs.Columns.{Columns, empty, ◌△◌}
 use Rattle.span_model.specs.Span.{InSpan}
 use Rattle.span_model.specs.Attack.{Product}
 use Rattle.span_model.specs.Closure.{Step, operand, co_operand, co_operands, IsChain}
-use Rattle.span_model.proofs.Sets.{△_comm, △_cancel_right, △-empty}
+use Rattle.span_model.proofs.Sets.{△_cancel_right, △-empty}
 use Rattle.span_model.proofs.Members.{in_none, in_cases, in_parts}
-use Rattle.tightprove.specs.Classes.{class_rows, IsPartner, AreClassesOf, Leaks, IsClean}
+use Rattle.tightprove.specs.Classes.{class_rows, IsPartner, IsClean}
 use Rattle.tightprove.specs.Private.Images.{image, first_row, image_at, AreImages, IsCoset, IsKeptBy, Extends, TakesPartners}
 use Rattle.tightprove.specs.declared.class.Class.{Class}
 use Rattle.tightprove.specs.declared.images.Images.{Images}
 use Rattle.tightprove.proofs.Closures.{partner_of}
-use Rattle.tightprove.proofs.Imaging.{xor_shared, xor_twice, image-sum, image-empty}
+use Rattle.tightprove.proofs.Imaging.{xor_shared, image-sum, image-empty}
 
 -- ---- a coset and its exclusive-or with one more word
 

@@ -10,7 +10,7 @@ use Rattle.span_model.specs.Span.{Spans, SameSpan}
 use Rattle.span_model.proofs.Members.{in_behind, in_front, spans_both, spans_follow}
 use Rattle.gf2_span.specs.Basis.{Basis, row_sets}
 use Rattle.gf2_span.specs.Rows.{HaveOwnLeads}
-use Rattle.tightprove.specs.Classes.{class_at, class_rows, IsPartner, AreClasses}
+use Rattle.tightprove.specs.Classes.{class_at, class_rows, IsPartner, AreClasses, LeadsApart}
 use Rattle.tightprove.specs.Growth.{rows_of_all, IsGrowth, IsGrown}
 use Rattle.tightprove.specs.declared.class.Class.{Class}
 use Rattle.tightprove.specs.declared.growth.Growth.{Growth}
@@ -94,18 +94,19 @@ pub flag_set : (flags same flipped : List Bool) (i : ℕ) → same ≡ flags →
 flag_set flags same flipped i e off is = is ∙ ap (λ (x : List Bool). set x i (not (get_or x i false))) e ∙ ap (λ (b : Bool). set flags i (not b)) off
 
 pub growth_taken : (classes : List Class) (candidates : Basis) (before after : Growth) (i : ℕ) → IsGrowth classes candidates before
-    → after.span.columns ≡ before.span.columns → after.joint.columns ≡ before.joint.columns → after.taken ≡ set before.taken i true
+    → after.span.columns ≡ before.span.columns → after.rest.columns ≡ before.rest.columns → after.taken ≡ set before.taken i true
     → SameSpan (row_sets after.span) (row_sets before.span ++ rows_of_all classes (class_at classes i).partners)
-    → SameSpan (row_sets after.joint) (row_sets before.joint ++ rows_of_all classes (class_at classes i).partners)
+    → LeadsApart (row_sets after.rest) (row_sets after.span) → Spans (row_sets after.rest ++ row_sets after.span) (row_sets before.rest)
     → IsGrowth classes candidates after
-growth_taken classes candidates before after i is columns joint_columns taken span joint =
+growth_taken classes candidates before after i is columns rest_columns taken span apart members =
     let all : List (Columns ℕ) = rows_of_all classes (class_at classes i).partners in
     record {
       columns = columns ∙ is.columns;
-      joint_columns = joint_columns ∙ is.joint_columns;
+      rest_columns = rest_columns ∙ is.rest_columns;
       flags = ap length taken ∙ length-set before.taken i true ∙ is.flags;
-      candidates_in = λ v m. (joint v).1 (in_behind (row_sets before.joint) all v (is.candidates_in v m));
-      span_in = λ v m. (joint v).1 (spans_beside (row_sets before.span) (row_sets before.joint) all all is.span_in (spans_self all) v ((span v).0 m));
+      candidates_in = λ v m. spans_both (row_sets after.rest ++ row_sets after.span) (row_sets before.rest) (row_sets before.span) members
+          (λ u k. in_front (row_sets after.rest) (row_sets after.span) u ((span u).1 (in_behind (row_sets before.span) all u k))) v (is.candidates_in v m);
+      apart = apart;
       taken = λ a j on partner. elim (cases_eq a i) [
         | inl same ↦
             let P : ℕ → Type 0 = λ k. IsPartner classes k j in

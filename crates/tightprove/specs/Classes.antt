@@ -4,7 +4,7 @@ use Rattle.span_model.specs.Columns.{Columns, empty, sets_of}
 use Rattle.span_model.specs.Span.{InSpan, SameSpan}
 use Rattle.span_model.specs.Attack.{Product}
 use Rattle.span_model.specs.Closure.{Step, operand, co_operand, IsClosed}
-use Rattle.gf2_span.specs.Rows.{IsLast, HaveOwnLeads}
+use Rattle.gf2_span.specs.Rows.{IsLast, HaveOwnLeads, LeadsNoMember}
 use Rattle.tightprove.specs.declared.class.Class.{Class}
 use Rattle.tightprove.specs.declared.classes.Classes.{Classes}
 
@@ -84,9 +84,9 @@ MeetEmpty a b = (v : Columns ℕ) → InSpan a v → InSpan b v → v ≡ empty
 abbrev pub MeetOnly : (a b within : List (Columns ℕ)) → Type 0
 MeetOnly a b within = (v : Columns ℕ) → InSpan a v → InSpan b v → InSpan within v
 
--- the column is the greatest one of a member of the span of the rows
-abbrev pub LeadsMember : List (Columns ℕ) → ℕ → Type 0
-LeadsMember rows c = (v : Columns ℕ) × InSpan rows v × IsLast v c
+-- no member of the span of the rows has the greatest column of a member of the span of the others
+abbrev pub LeadsApart : (rows others : List (Columns ℕ)) → Type 0
+LeadsApart rows others = (v : Columns ℕ) (c : ℕ) → InSpan rows v → IsLast v c → LeadsNoMember others c
 
 -- numbers of classes, at most as many as there are. Each class is among them, or has only members of the span `within` in common with the span of the rows
 pub record AreNear (classes : List Class) (rows within : List (Columns ℕ)) (near : List ℕ) : Type 0 where

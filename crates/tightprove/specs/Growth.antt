@@ -6,7 +6,7 @@ use Rattle.span_model.specs.Attack.{Product}
 use Rattle.span_model.specs.Closure.{Step, IsChain, co_operands}
 use Rattle.gf2_span.specs.Basis.{Basis, row_sets}
 use Rattle.gf2_span.specs.Rows.{IsLast, LeadsNoMember}
-use Rattle.tightprove.specs.Classes.{class_rows, IsPartner, AreClassesOf, IsClean}
+use Rattle.tightprove.specs.Classes.{class_rows, IsPartner, AreClassesOf, IsClean, LeadsApart}
 use Rattle.tightprove.specs.declared.class.Class.{Class}
 use Rattle.tightprove.specs.declared.growth.Growth.{Growth}
 
@@ -62,13 +62,14 @@ IsInPieces candidates span pieces rows =
     (v : Columns ℕ) → InSpan (row_sets candidates) v → InSpan (rows ++ span) v
     → (v ≡ empty) ⊎ ((n : ℕ) × (n < length pieces) × InSpan (row_sets (span_at pieces n)) v)
 
--- a growing span of co-operands, the span that it has together with the candidates, and the classes whose partners it has taken
+-- a growing span of co-operands, a span whose members lead none of its members and that holds the candidates together with it, and the classes
+-- whose partners it has taken
 pub record IsGrowth (classes : List Class) (candidates : Basis) (growth : Growth) : Type 0 where
   pub columns : growth.span.columns ≡ candidates.columns
-  pub joint_columns : growth.joint.columns ≡ candidates.columns
+  pub rest_columns : growth.rest.columns ≡ candidates.columns
   pub flags : length growth.taken ≡ length classes
-  pub candidates_in : Spans (row_sets growth.joint) (row_sets candidates)
-  pub span_in : Spans (row_sets growth.joint) (row_sets growth.span)
+  pub candidates_in : Spans (row_sets growth.rest ++ row_sets growth.span) (row_sets candidates)
+  pub apart : LeadsApart (row_sets growth.rest) (row_sets growth.span)
   pub taken : (i j : ℕ) → slice_index_or growth.taken i false ≡ true → IsPartner classes i j → Spans (row_sets growth.span) (class_rows classes j)
 
 -- class i is taken, or has with the span no candidates in common outside the span

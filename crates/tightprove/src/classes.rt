@@ -1,10 +1,10 @@
 ghost use Rattle.std.specs.Prelude.{◌≡◌, ◌≢◌, ◌<◌, ◌≤◌, ◌+◌, ◌^◌, ◌++◌, ℕ, [], ◌∷◌, List, length, true, false, Some, slice_index_or, IfOk, OnOk, OnErr, IfSome, All, Contains, suc};
 ghost use Rattle.span_model.specs.Columns.{sets_of, set_of};
-ghost use Rattle.span_model.specs.Span.{SameSpan, Spans};
+ghost use Rattle.span_model.specs.Span.{SameSpan};
 ghost use Rattle.span_model.specs.Attack.{Product, product_at};
 ghost use Rattle.gf2_span.specs.Basis.{row_sets};
 ghost use Rattle.linear_view.specs.View.{products_of, product_of, Operands};
-ghost use Rattle.tightprove.specs.Classes.{class_at, class_rows, IsPartner, AreClasses, AreByLead, AreClassesOf, AreStepsOf, AreNear, AreListed, IsGathered, HasClassesOf, HasPartnersAnd, HasInLanes, LeadsMember};
+ghost use Rattle.tightprove.specs.Classes.{class_at, class_rows, IsPartner, AreClasses, AreByLead, AreClassesOf, AreStepsOf, AreNear, AreListed, IsGathered, HasClassesOf, HasPartnersAnd, HasInLanes, LeadsApart};
 ghost use Rattle.gf2_span.specs.Rows.{IsLast, HaveOwnLeads};
 ghost use Rattle.std.specs.Bool.{OnTrue};
 
@@ -326,27 +326,24 @@ fn list_lane(lane: &[usize], listed: &mut BitRow, near: &mut Vec<usize>) -> Resu
     Ok(())
 }
 
-// The lesser of a column and a lead, where the lead is that of no member of the span.
-fn lower(low: u32, lead: u32, within: &Span) -> u32
+// The lesser of a column and a lead, if there is one.
+fn lower(low: u32, lead: Option<u32>) -> u32
     ensures less { result ≤ low }
-    ensures led { lead < result → LeadsMember (row_sets within.now) lead }
+    ensures lead { IfSome lead (λ c. result ≤ c) }
 {
-    if low <= lead {
-        return low;
+    match lead {
+        Some(c) => { if c < low { c } else { low } }
+        None => low,
     }
-    if within.has_lead(lead) {
-        return low;
-    }
-    lead
 }
 
-// The least of the leads that is that of no member of the span, or `most`.
-fn least_outside(leads: &[u32], within: &Span, most: u32) -> u32
-    ensures { (c : ℕ) → Contains leads.now c → c < result → LeadsMember (row_sets within.now) c }
+// The least of the greatest columns of the span's rows, or `most`.
+fn least_lead(span: &Span, most: u32) -> u32
+    ensures { (k c : ℕ) → k < length span.now.rows → IsLast (set_of (slice_index_or span.now.rows k [])) c → result ≤ c }
 {
     let mut low = most;
-    for lead in leads {
-        low = lower(low, *lead, within);
+    for k in 0..span.rank() {
+        low = lower(low, lead_of(span, k));
     }
     low
 }
@@ -362,29 +359,47 @@ fn lane_from(table: &Vec<List<usize>>, c: u32, low: u32) -> &[usize]
     lane_at(table, c)
 }
 
-/// The classes that share a greatest column with the span, from the least one on that is that of no member of `within`: any other class
-/// has only members of `within` in common with it.
+// Lists the classes that share a greatest column with the span, from the column `low` on.
+fn list_span(
+    alloc: Global,
+    span: &Span,
+    low: u32,
+    by_lead: &Vec<List<usize>>,
+    listed: &mut BitRow,
+    near: &mut Vec<usize>,
+) -> Result<(), AllocError>
+    requires few { length listed.old < 2 ^ 32 }
+    requires numbers { (c i : ℕ) → Contains (slice_index_or by_lead.now.items c []) i → i < length listed.old }
+    requires listed { AreListed (length listed.old) listed.old near.old.items }
+    ensures own { HaveOwnLeads (row_sets span.now) }
+    ensures listed { OnOk result (AreListed (length listed.old) listed.new near.new.items) }
+    ensures kept { OnOk result ((i : ℕ) → slice_index_or listed.old i false ≡ true → slice_index_or listed.new i false ≡ true) }
+    ensures lanes { OnOk result ((k c i : ℕ) → k < length span.now.rows → IsLast (set_of (slice_index_or span.now.rows k [])) c → low ≤ c
+        → Contains (slice_index_or by_lead.now.items c []) i → slice_index_or listed.new i false ≡ true) }
+{
+    for lead in &leads_of(alloc, span)? {
+        list_lane(lane_from(by_lead, *lead, low), listed, near)?;
+    }
+    Ok(())
+}
+
+/// The classes that share a greatest column with one of the spans, from the least one of `rest` on: any other class has only members of the
+/// span in common with both together.
 pub(crate) fn touching(
     alloc: Global,
     classes: &Classes,
+    rest: &Span,
     span: &Span,
-    within: &Span,
 ) -> Result<Vec<usize>, AllocError>
     requires classes { IsGathered classes.now }
-    requires held { Spans (row_sets span.now) (row_sets within.now) }
-    ensures { IfOk result (λ near. AreNear classes.now.list.items (row_sets span.now) (row_sets within.now) near.items) }
+    requires apart { LeadsApart (row_sets rest.now) (row_sets span.now) }
+    ensures { IfOk result (λ near. AreNear classes.now.list.items (row_sets rest.now ++ row_sets span.now) (row_sets span.now) near.items) }
 {
     let mut listed = BitRow::new(alloc, classes.count())?;
     let mut near = Vec::new(alloc);
-    let leads = leads_of(alloc, span)?;
-    let low = least_outside(leads.as_slice(), within, classes.columns);
-    for lead in &leads {
-        list_lane(
-            lane_from(&classes.by_lead, *lead, low),
-            &mut listed,
-            &mut near,
-        )?;
-    }
+    let low = least_lead(rest, classes.columns);
+    list_span(alloc, rest, low, &classes.by_lead, &mut listed, &mut near)?;
+    list_span(alloc, span, low, &classes.by_lead, &mut listed, &mut near)?;
     leads_are_kept();
     Ok(near)
 }

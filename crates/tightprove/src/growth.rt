@@ -4,18 +4,20 @@ ghost use Rattle.span_model.specs.Columns.{set_of, sets_of};
 ghost use Rattle.span_model.specs.Span.{Spans, SameSpan};
 ghost use Rattle.gf2_span.specs.Basis.{row_sets};
 ghost use Rattle.gf2_span.specs.Rows.{HaveOwnLeads};
-ghost use Rattle.tightprove.specs.Classes.{class_at, class_rows, IsGathered, KeepsLeaks};
+ghost use Rattle.tightprove.specs.Classes.{class_at, class_rows, IsGathered, KeepsLeaks, LeadsApart};
 ghost use Rattle.tightprove.specs.Growth.{rows_of_all, MeetsWithin, LeadsWithin, IsHull, IsGrown, IsSaturated, HasRowOutside, IsGrowth, MeetsNoMore, HoldsNoMore, left_over};
 
+use crate::apart::settle;
 use crate::classes::{Classes, touching};
 use gf2_span::{BitRow, Span, leads_are_kept};
 use std::alloc::{AllocError, Global};
 
-/// A span of co-operands that grows for a span of candidates, the span of both together, and for each class whether its partners are taken.
+/// A span of co-operands that grows for a span of candidates, what is left of these as far as no column leads members of both, and for each class
+/// whether its partners are taken.
 #[derive(Drop)]
 pub(crate) struct Growth {
     pub(crate) span: Span,
-    pub(crate) joint: Span,
+    pub(crate) rest: Span,
     pub(crate) taken: BitRow,
 }
 
@@ -28,7 +30,7 @@ impl Growth {
     {
         Ok(Growth {
             span: Span::new(alloc, classes.columns)?,
-            joint: candidates.copy(alloc)?,
+            rest: candidates.copy(alloc)?,
             taken: BitRow::new(alloc, classes.count())?,
         })
     }
@@ -53,45 +55,50 @@ impl Growth {
         for j in classes.list[i].partners.as_slice() {
             let rows = classes.list[*j].rows.as_slice();
             self.span.insert_all(alloc, rows)?;
-            self.joint.insert_all(alloc, rows)?;
         }
+        settle(alloc, classes.columns, &mut self.rest, &self.span)?;
         self.taken.flip(i as u32);
         Ok(())
     }
 }
 
-// Whether the row is outside the span, and its greatest column is that of a member of the joint span. Where it is not so, the answer is exact.
-fn leads_outside(row: &BitRow, span: &Span, joint: &Span, scratch: &mut BitRow) -> bool
+// Whether the row is outside the span, and its greatest column is that of a member of the rest and the span together. Where it is not so, the
+// answer is exact.
+fn leads_outside(row: &BitRow, span: &Span, rest: &Span, scratch: &mut BitRow) -> bool
     requires row { length row.now ≡ span.now.columns }
     requires scratch { length scratch.old ≡ span.now.columns }
-    ensures answer { OnFalse result (LeadsWithin (row_sets span.now) (row_sets joint.now) (set_of row.now)) }
+    requires apart { LeadsApart (row_sets rest.now) (row_sets span.now) }
+    ensures answer { OnFalse result (LeadsWithin (row_sets span.now) (row_sets rest.now ++ row_sets span.now) (set_of row.now)) }
     ensures scratch { length scratch.new ≡ length scratch.old }
 {
     let Some(c) = row.last() else {
         return false;
     };
-    if !joint.has_lead(c) {
+    if rest.has_lead(c) {
+        return true;
+    }
+    if !span.has_lead(c) {
         return false;
     }
     !span.contains(row, scratch)
 }
 
-// The first of the rows that leads outside. Where none does, the rows hold with the span no more of the joint span than the span.
+// The first of the rows that leads outside. Where none does, the rows hold with the span no more of the rest and the span together than the span.
 fn first_outside<'a>(
     rows: &'a [BitRow],
     span: &Span,
-    joint: &Span,
+    rest: &Span,
     scratch: &mut BitRow,
 ) -> Option<&'a BitRow>
     requires wide { (k : ℕ) → k < length rows.now → length (slice_index_or rows.now k []) ≡ span.now.columns }
     requires scratch { length scratch.old ≡ span.now.columns }
     requires own { HaveOwnLeads (sets_of rows.now) }
-    requires span_in { Spans (row_sets joint.now) (row_sets span.now) }
-    ensures answer { MatchOption result (MeetsWithin (row_sets joint.now) (sets_of rows.now) (row_sets span.now)) (λ row. length row.now ≡ span.now.columns) }
+    requires apart { LeadsApart (row_sets rest.now) (row_sets span.now) }
+    ensures answer { MatchOption result (MeetsWithin (row_sets rest.now ++ row_sets span.now) (sets_of rows.now) (row_sets span.now)) (λ row. length row.now ≡ span.now.columns) }
     ensures scratch { length scratch.new ≡ length scratch.old }
 {
     for row in rows {
-        if leads_outside(row, span, joint, scratch) {
+        if leads_outside(row, span, rest, scratch) {
             return Some(row);
         }
     }
@@ -105,20 +112,19 @@ fn meets_outside(
     candidates: &Span,
     rows: &[BitRow],
     span: &Span,
-    joint: &Span,
+    rest: &Span,
     scratch: &mut BitRow,
 ) -> Result<bool, AllocError>
     requires same { candidates.now.columns ≡ span.now.columns }
     requires wide { (k : ℕ) → k < length rows.now → length (slice_index_or rows.now k []) ≡ span.now.columns }
-    requires joint { joint.now.columns ≡ span.now.columns }
     requires scratch { length scratch.old ≡ span.now.columns }
     requires own { HaveOwnLeads (sets_of rows.now) }
-    requires candidates_in { Spans (row_sets joint.now) (row_sets candidates.now) }
-    requires span_in { Spans (row_sets joint.now) (row_sets span.now) }
+    requires candidates_in { Spans (row_sets rest.now ++ row_sets span.now) (row_sets candidates.now) }
+    requires apart { LeadsApart (row_sets rest.now) (row_sets span.now) }
     ensures answer { IfOk result (λ outside. OnFalse outside (MeetsWithin (row_sets candidates.now) (sets_of rows.now) (row_sets span.now))) }
     ensures scratch { length scratch.new ≡ length scratch.old }
 {
-    let Some(row) = first_outside(rows, span, joint, scratch) else {
+    let Some(row) = first_outside(rows, span, rest, scratch) else {
         return Ok(false);
     };
     if candidates.contains(row, scratch) {
@@ -172,7 +178,7 @@ fn take_if_meets(
         candidates,
         classes.list[i].rows.as_slice(),
         &growth.span,
-        &growth.joint,
+        &growth.rest,
         scratch,
     )? {
         return Ok(false);
@@ -197,7 +203,7 @@ fn hull_pass(
     ensures scratch { OnOk result (length scratch.new ≡ length scratch.old) }
     ensures answer { IfOk result (λ grew. MatchBool grew (left_over growth.new < left_over growth.old) (IsHull classes.now.list.items (row_sets candidates.now) (row_sets growth.new.span))) }
 {
-    let near = touching(alloc, classes, &growth.joint, &growth.span)?;
+    let near = touching(alloc, classes, &growth.rest, &growth.span)?;
     let mut grew = false;
     for i in &near {
         if take_if_meets(alloc, classes, candidates, growth, *i, scratch)? {
@@ -220,7 +226,7 @@ fn hull(alloc: Global, classes: &Classes, candidates: &Span) -> Result<Span, All
         if !hull_pass(alloc, classes, candidates, &mut growth, &mut scratch)? {
             let Growth {
                 span,
-                joint: _joint,
+                rest: _rest,
                 taken: _taken,
             } = growth;
             return Ok(span);
@@ -321,7 +327,7 @@ fn grow_pass(
     ensures scratch { OnOk result (length scratch.new ≡ length scratch.old) }
     ensures answer { IfOk result (λ grew. MatchBool grew (left_over growth.new < left_over growth.old) (IsSaturated classes.now.list.items candidates.now (row_sets growth.new.span))) }
 {
-    let near = touching(alloc, classes, &growth.joint, &growth.span)?;
+    let near = touching(alloc, classes, &growth.rest, &growth.span)?;
     let mut grew = false;
     for i in &near {
         if take_if_holds(alloc, classes, candidates, growth, *i, scratch)? {
@@ -347,7 +353,7 @@ pub(crate) fn grow(alloc: Global, classes: &Classes, candidates: &Span) -> Resul
         {
             let Growth {
                 span,
-                joint: _joint,
+                rest: _rest,
                 taken: _taken,
             } = growth;
             return Ok(span);

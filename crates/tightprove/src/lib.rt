@@ -4,6 +4,7 @@
 //! over whole spans of candidates at a time.
 #![tactic(auto)]
 
+mod apart;
 mod bounds;
 mod class;
 mod classes;

@@ -5,6 +5,7 @@ ghost use Rattle.gf2_span.specs.Basis.{row_sets};
 ghost use Rattle.tightprove.specs.Classes.{IsGathered, MeetEmpty};
 ghost use Rattle.tightprove.specs.Growth.{IsSaturated, ArePieces};
 
+use crate::apart::reduced;
 use crate::classes::{Classes, touching};
 use gf2_span::{BitRow, Span};
 use std::alloc::{AllocError, Global};
@@ -35,9 +36,9 @@ pub(crate) fn pieces(
     requires apart { MeetEmpty (row_sets candidates.now) (row_sets span.now) }
     ensures { IfOk result (λ pieces. ArePieces classes.now.list.items candidates.now (row_sets span.now) pieces.items) }
 {
-    let joint = Span::sum(alloc, candidates, span)?;
+    let rest = reduced(alloc, classes.columns, candidates, span)?;
     let mut pieces = Vec::new(alloc);
-    for i in &touching(alloc, classes, &joint, span)? {
+    for i in &touching(alloc, classes, &rest, span)? {
         let piece = Span::meet_sum(alloc, candidates, classes.list[*i].rows.as_slice(), span)?;
         if piece.rank() < candidates.rank() {
             pieces.push(piece)?;

@@ -1,4 +1,4 @@
-use Rattle.std.proofs.Common.{◌≡◌, ◌<◌, ℕ, List, length, get_or, bit_xor, subst, sym}
+use Rattle.std.proofs.Common.{ℕ, List, bit_xor, subst, sym}
 use Rattle.std.specs.List.{Contains}
 use Rattle.tightprove.specs.Private.Images.{IsKeptBy, Extends}
 use Rattle.tightprove.proofs.Reaching.{test_holds, kept_inside, kept_new, extends_doubled}

@@ -1,7 +1,7 @@
-use Rattle.std.proofs.Common.{◌≡◌, ◌<◌, ◌≤◌, ◌+◌, ℕ, List, not, length, get_or, subst, sym, ap, ◌∙◌, arith}
+use Rattle.std.proofs.Common.{◌≡◌, ◌<◌, ◌≤◌, ℕ, List, not, length, get_or, subst, ◌∙◌, arith}
 use Rattle.std.specs.List.{Contains}
 use Rattle.std.proofs.lemmas.List.{get_or_default}
-use Rattle.tightprove.specs.Private.Images.{image_at, TakesPartners, IsCoset}
+use Rattle.tightprove.specs.Private.Images.{image_at, TakesPartners}
 use Rattle.tightprove.specs.declared.class.Class.{Class}
 use Rattle.tightprove.proofs.Calls.{on_true, of_true}
 use Rattle.tightprove.proofs.Reaching.{apart_clean, at_same, contains_at, takes_more, test_misses, not_true}

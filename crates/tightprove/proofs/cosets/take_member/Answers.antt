@@ -1,8 +1,7 @@
-use Rattle.std.proofs.Common.{◌≡◌, ◌<◌, ℕ, List, Some, length, get_or, subst, sym, ◌∙◌, rules, arith}
+use Rattle.std.proofs.Common.{◌≡◌, ◌<◌, ℕ, List, Some, length, subst, sym, rules, arith}
 use Rattle.std.specs.Prelude.{nat_eq}
 use Rattle.std.specs.HashMap.{get}
 use Rattle.std.specs.List.{Contains}
-use Rattle.tightprove.specs.Classes.{class_at}
 use Rattle.tightprove.specs.declared.class.Class.{Class}
 use Rattle.tightprove.proofs.Calls.{on_true, of_true}
 use Rattle.tightprove.proofs.Taking.{partners_at}

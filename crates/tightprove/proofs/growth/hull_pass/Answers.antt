@@ -1,4 +1,4 @@
-use Rattle.std.proofs.Common.{◌≡◌, ◌<◌, List, ℕ, Bool, get_or, sym, subst, ◌∙◌}
+use Rattle.std.proofs.Common.{◌≡◌, ◌<◌, ◌++◌, List, ℕ, Bool, get_or, sym, subst, ◌∙◌}
 use Rattle.gf2_span.specs.Basis.{row_sets}
 use Rattle.tightprove.specs.Classes.{AreNear}
 use Rattle.tightprove.specs.Growth.{MeetsNoMore, left_over}
@@ -30,6 +30,6 @@ loop-i-preserved c =
 
 pub returns-clause-answer : goal.returns-clause-answer
 returns-clause-answer c =
-    let P : List ℕ → Type 0 = λ xs. AreNear c.args.classes.now.list.items (row_sets c.args.growth.now.joint) (row_sets c.args.growth.now.span) xs in
+    let P : List ℕ → Type 0 = λ xs. AreNear c.args.classes.now.list.items (row_sets c.args.growth.now.rest ++ row_sets c.args.growth.now.span) (row_sets c.args.growth.now.span) xs in
     hull_ends c.args.classes.now.list.items c.args.candidates.now c.deref-i-items.result.now c.loop-i.i-index c.args.growth.now c.loop-i.growth c.loop-i.grew c.loop-i.invariant.passed c.loop-i-test.false
     c.loop-i.invariant.growth (subst P (sym c.deref-i-items.ensures.value) c.in_ok-near.ensures)

@@ -1,4 +1,4 @@
-use Rattle.std.proofs.Common.{◌≡◌, ◌<◌, ◌≤◌, ℕ, length, get_or, bit_xor, false, sym, ap, ◌∙◌, arith}
+use Rattle.std.proofs.Common.{◌≡◌, ◌≤◌, ℕ, length, get_or, bit_xor, false, sym, ap, ◌∙◌, arith}
 use Rattle.span_model.specs.Columns.{Columns, set_of}
 use Rattle.tightprove.proofs.Calls.{of_none}
 use Rattle.tightprove.proofs.Imaging.{below_same, below_more}

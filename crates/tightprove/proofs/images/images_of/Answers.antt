@@ -1,5 +1,4 @@
 use Rattle.std.proofs.Common.{◌≡◌, ◌<◌, ◌+◌, ◌∙◌, ℕ, List, length, get_or, ap, sym, subst, arith}
-use Rattle.span_model.specs.Columns.{sets_of}
 use Rattle.tightprove.specs.Classes.{class_rows}
 use Rattle.tightprove.specs.declared.class.Class.{Class}
 use Rattle.tightprove.specs.Private.Images.{AreImagesOf}

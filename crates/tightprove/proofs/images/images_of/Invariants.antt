@@ -1,4 +1,3 @@
-use Rattle.std.proofs.Common.{◌≡◌, length}
 use Rattle.tightprove.specs.Classes.{class_rows}
 use Rattle.tightprove.specs.Private.Images.{AreImagesOf}
 use Rattle.tightprove.proofs.images.images_of.Given as goal

@@ -7,8 +7,7 @@ use Rattle.tightprove.proofs.growth.Growth.take.Given as goal
 abbrev pub invariant-loop-j : goal.invariant-loop-j
 invariant-loop-j l = record {
   columns : l.self.span.columns ≡ l.initial.self.span.columns;
-  joint_columns : l.self.joint.columns ≡ l.initial.self.joint.columns;
+  rest : l.self.rest ≡ l.initial.self.rest;
   taken : l.self.taken ≡ l.initial.self.taken;
   span : SameSpan (row_sets l.self.span) (row_sets l.initial.self.span ++ rows_of_all l.classes.list.items (take l.j-index l.j-items));
-  joint : SameSpan (row_sets l.self.joint) (row_sets l.initial.self.joint ++ rows_of_all l.classes.list.items (take l.j-index l.j-items));
 }

@@ -1,4 +1,5 @@
 -- The theory behind the search.
+pub mod Alone
 pub mod Rests
 pub mod Calls
 pub mod Closures

@@ -179,7 +179,7 @@ fn add_class(
 }
 
 /// The number of the class with the span of the rows, which is added where there is none.
-pub(crate) fn place(
+pub(crate) fn place_span(
     alloc: Global,
     columns: u32,
     list: &mut Vec<Class>,
@@ -208,6 +208,141 @@ pub(crate) fn place(
     }
 }
 
+// Whether the rows are found to be this row alone.
+fn is_row(rows: &[BitRow], row: &BitRow) -> bool
+    ensures { OnTrue result (rows.now ≡ row.now ∷ []) }
+{
+    match rows {
+        [only] => only.equals(row),
+        _ => false,
+    }
+}
+
+// The class of this row alone, where one is found among these.
+fn find_row(list: &Vec<Class>, among: &[usize], row: &BitRow) -> Option<usize>
+    ensures { IfSome result
+        (λ i. (i < length list.now.items) × SameSpan (class_rows list.now.items i) (set_of row.now ∷ [])) }
+{
+    for i in among {
+        if let Some(class) = list.get(*i) {
+            if is_row(class.rows.as_slice(), row) {
+                return Some(*i);
+            }
+        }
+    }
+    None
+}
+
+// Adds a class of a row, with no partners yet.
+fn add_row(
+    alloc: Global,
+    list: &mut Vec<Class>,
+    by_lead: &mut Vec<List<usize>>,
+    row: &BitRow,
+    lead: u32,
+) -> Result<(), AllocError>
+    requires classes { AreClasses (length row.now) list.old.items }
+    requires by_lead { AreByLead list.old.items by_lead.old.items }
+    requires width { length by_lead.old.items ≡ length row.now }
+    requires lead { (lead < length row.now) × IsLast (set_of row.now) lead }
+    ensures list { OnOk result (list.new.items ≡ list.old.items ++ record { rows = row.now ∷ []; partners = [] } ∷ []) }
+    ensures classes { OnOk result (AreClasses (length row.now) list.new.items) }
+    ensures by_lead { OnOk result (AreByLead list.new.items by_lead.new.items) }
+    ensures width { length by_lead.new.items ≡ length row.now }
+{
+    let mut rows = List::new(alloc);
+    rows.push(row.copy(alloc)?)?;
+    add_to_lanes(&[lead], list.len(), by_lead)?;
+    list.push(Class {
+        rows,
+        partners: List::new(alloc),
+    })?;
+    Ok(())
+}
+
+// The lane of a row in a table, by the row's least and greatest columns.
+fn lane_of_row(table: &Vec<List<usize>>, row: &BitRow, lead: u32) -> usize {
+    let first = row.first().unwrap_or(lead);
+    let key = first as usize * 40_503 + lead as usize;
+    key.checked_rem(table.len()).unwrap_or(0)
+}
+
+// The classes of a lane.
+fn noted(table: &Vec<List<usize>>, lane: usize) -> &[usize] {
+    match table.get(lane) {
+        Some(classes) => classes.as_slice(),
+        None => &[],
+    }
+}
+
+// Notes a class in a lane.
+fn note(table: &mut Vec<List<usize>>, lane: usize, class: usize) -> Result<(), AllocError> {
+    if let Some(classes) = table.get_mut(lane) {
+        classes.push(class)?;
+    }
+    Ok(())
+}
+
+// The number of the class of the row alone, which is added where none is noted.
+fn place_row(
+    alloc: Global,
+    list: &mut Vec<Class>,
+    by_lead: &mut Vec<List<usize>>,
+    by_row: &mut Vec<List<usize>>,
+    row: &BitRow,
+    lead: u32,
+) -> Result<usize, AllocError>
+    requires classes { AreClasses (length row.now) list.old.items }
+    requires by_lead { AreByLead list.old.items by_lead.old.items }
+    requires width { length by_lead.old.items ≡ length row.now }
+    requires lead { (lead < length row.now) × IsLast (set_of row.now) lead }
+    ensures number { IfOk result
+        (λ i. (i < length list.new.items) × SameSpan (class_rows list.new.items i) (set_of row.now ∷ [])) }
+    ensures kept { OnOk result (HasClassesOf list.old.items list.new.items) }
+    ensures few { OnOk result (length list.new.items ≤ length list.old.items + 1) }
+    ensures classes { OnOk result (AreClasses (length row.now) list.new.items) }
+    ensures by_lead { OnOk result (AreByLead list.new.items by_lead.new.items) }
+    ensures width { length by_lead.new.items ≡ length row.now }
+{
+    let lane = lane_of_row(by_row, row, lead);
+    if let Some(i) = find_row(list, noted(by_row, lane), row) {
+        return Ok(i);
+    }
+    let i = list.len();
+    add_row(alloc, list, by_lead, row, lead)?;
+    note(by_row, lane, i)?;
+    Ok(i)
+}
+
+/// The number of a class with the span of the rows, which is added where there is none. The table `by_row` has the classes of single rows
+/// that were placed, so that an equal row is found without going over those with the same greatest column.
+pub(crate) fn place(
+    alloc: Global,
+    columns: u32,
+    list: &mut Vec<Class>,
+    by_lead: &mut Vec<List<usize>>,
+    by_row: &mut Vec<List<usize>>,
+    rows: &[BitRow],
+) -> Result<usize, AllocError>
+    requires classes { AreClasses columns list.old.items }
+    requires by_lead { AreByLead list.old.items by_lead.old.items }
+    requires width { length by_lead.old.items ≡ columns }
+    requires wide { (k : ℕ) → k < length rows.now → length (slice_index_or rows.now k []) ≡ columns }
+    ensures number { IfOk result (λ i. (i < length list.new.items) × SameSpan (class_rows list.new.items i) (sets_of rows.now)) }
+    ensures kept { OnOk result (HasClassesOf list.old.items list.new.items) }
+    ensures few { OnOk result (length list.new.items ≤ length list.old.items + 1) }
+    ensures classes { OnOk result (AreClasses columns list.new.items) }
+    ensures by_lead { OnOk result (AreByLead list.new.items by_lead.new.items) }
+    ensures width { length by_lead.new.items ≡ columns }
+{
+    if let [row] = rows {
+        if let Some(lead) = row.last() {
+            return place_row(alloc, list, by_lead, by_row, row, lead);
+        }
+    }
+    place_span(alloc, columns, list, by_lead, rows)
+}
+
 /// Notes that operands of class i stand beside operands of class j.
 pub(crate) fn add_partner(list: &mut Vec<Class>, i: usize, j: usize) -> Result<(), AllocError>
     requires i { i < length list.old.items }
@@ -225,6 +360,7 @@ fn add_product(
     columns: u32,
     list: &mut Vec<Class>,
     by_lead: &mut Vec<List<usize>>,
+    by_row: &mut Vec<List<usize>>,
     left: &[BitRow],
     right: &[BitRow],
 ) -> Result<(), AllocError>
@@ -239,8 +375,8 @@ fn add_product(
     ensures by_lead { OnOk result (AreByLead list.new.items by_lead.new.items) }
     ensures width { length by_lead.new.items ≡ columns }
 {
-    let i = place(alloc, columns, list, by_lead, left)?;
-    let j = place(alloc, columns, list, by_lead, right)?;
+    let i = place(alloc, columns, list, by_lead, by_row, left)?;
+    let j = place(alloc, columns, list, by_lead, by_row, right)?;
     add_partner(list, i, j)?;
     add_partner(list, j, i)?;
     Ok(())
@@ -253,6 +389,7 @@ fn add_numbered(
     k: u32,
     list: &mut Vec<Class>,
     by_lead: &mut Vec<List<usize>>,
+    by_row: &mut Vec<List<usize>>,
 ) -> Result<(), AllocError>
     requires k { k < length view.now.products }
     requires classes { AreClasses (length view.now.columns) list.old.items }
@@ -272,7 +409,7 @@ fn add_numbered(
         product: k,
         side: Side::Right,
     });
-    add_product(alloc, view.columns(), list, by_lead, left, right)?;
+    add_product(alloc, view.columns(), list, by_lead, by_row, left, right)?;
     Ok(())
 }
 
@@ -297,8 +434,9 @@ pub(crate) fn classes_of(alloc: Global, view: &View) -> Result<Classes, AllocErr
     let columns = view.columns();
     let mut list = Vec::new(alloc);
     let mut by_lead = empty_lanes(alloc, columns)?;
+    let mut by_row = empty_lanes(alloc, view.products())?;
     for k in 0..view.products() {
-        add_numbered(alloc, view, k, &mut list, &mut by_lead)?;
+        add_numbered(alloc, view, k, &mut list, &mut by_lead, &mut by_row)?;
     }
     Ok(Classes {
         columns,

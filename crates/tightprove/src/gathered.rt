@@ -9,7 +9,7 @@ ghost use Rattle.tightprove.specs.Growth.{AreKnown};
 ghost use Rattle.tightprove.specs.Private.Gathered.{marks_of, beyond, place_at, rows_in, IsPlaceOf, IsGatheredOf, IsReady, KeepsRows, HasSameRows};
 
 use crate::class::Class;
-use crate::classes::{Classes, add_partner, empty_lanes, place};
+use crate::classes::{Classes, add_partner, empty_lanes, place, place_span};
 use crate::cosets::leak_in;
 use crate::images::{Images, images_of};
 use crate::known::Known;
@@ -42,6 +42,7 @@ fn placed(
     k: u32,
     list: &mut Vec<Class>,
     by_lead: &mut Vec<List<usize>>,
+    by_row: &mut Vec<List<usize>>,
 ) -> Result<Place, AllocError>
     requires k { k < length view.now.products }
     requires classes { AreClasses (length view.now.columns) list.old.items }
@@ -63,8 +64,8 @@ fn placed(
         product: k,
         side: Side::Right,
     });
-    let left = place(alloc, columns, list, by_lead, left_rows)?;
-    let right = place(alloc, columns, list, by_lead, right_rows)?;
+    let left = place(alloc, columns, list, by_lead, by_row, left_rows)?;
+    let right = place(alloc, columns, list, by_lead, by_row, right_rows)?;
     Ok(Place { left, right })
 }
 
@@ -84,7 +85,7 @@ fn place_bare(
     ensures by_lead { OnOk result (AreByLead list.new.items by_lead.new.items) }
     ensures width { length by_lead.new.items ≡ columns }
 {
-    place(alloc, columns, list, by_lead, &[])
+    place_span(alloc, columns, list, by_lead, &[])
 }
 
 // Takes all numbers out of a list, which keeps its memory.
@@ -138,9 +139,10 @@ impl Gathered {
         let mut list = Vec::new(alloc);
         let mut by_lead = empty_lanes(alloc, columns)?;
         let bare = place_bare(alloc, columns, &mut list, &mut by_lead)?;
+        let mut by_row = empty_lanes(alloc, view.products())?;
         let mut places = Vec::new(alloc);
         for k in 0..view.products() {
-            places.push(placed(alloc, view, k, &mut list, &mut by_lead)?)?;
+            places.push(placed(alloc, view, k, &mut list, &mut by_lead, &mut by_row)?)?;
         }
         let classes = Classes {
             columns,

@@ -264,15 +264,19 @@ module _ (laws : Laws) (file : List ℕ → Option (List ℕ)) where
       } in
       let told : (b : Bool) → MatchBool b (¬ HasAttack (core_products core)) (HasAttack (core_products core)) → HasOutcome (GenEnds seed size) = λ b verdict. (
         answers (report_text (report b)) status.Done,
-        (report b, record {
-          core = core;
-          generated = source;
-          seed_is = refl;
-          size_is = refl;
-          equations_are = refl;
-          columns_are = refl;
-          verdict = verdict;
-        }, refl),
+        (
+          report b,
+          record {
+            core = core;
+            generated = source;
+            seed_is = refl;
+            size_is = refl;
+            equations_are = refl;
+            columns_are = refl;
+            verdict = verdict;
+          },
+          refl,
+        ),
         tt,
       ) in
       let safe : ¬ HasAttack (core_products core) = λ has. none (told false has) in
@@ -292,11 +296,11 @@ module _ (laws : Laws) (file : List ℕ → Option (List ℕ)) where
       let at = first attack [] (others name (attack ∷ []) held) in
       on_core name b _ range (first name (attack ∷ []) held)
       (λ core is few.
-          after_held_can file attack status.Values (SpellsAttack (core_view core)) (IsFaultyAttack (core_view core)) (IsConfirmation core) at.0 at.1
-          (laws.attacks (core_view core))
-          (λ spelled says.
-              confirmation_can laws.views laws.left_columns laws.derivations laws.unfoldings core is (is_view_of core is few) spelled
-              (laws.attack_is_read (core_view core) at.0 spelled (is_view_of core is few) says).0))
+      after_held_can file attack status.Values (SpellsAttack (core_view core)) (IsFaultyAttack (core_view core)) (IsConfirmation core) at.0 at.1
+      (laws.attacks (core_view core))
+      (λ spelled says.
+      confirmation_can laws.views laws.left_columns laws.derivations laws.unfoldings core is (is_view_of core is few) spelled
+      (laws.attack_is_read (core_view core) at.0 spelled (is_view_of core is few) says).0))
   each (order.Repair name b) range held =
       on_core name b _ range (first name [] held) (λ core is few. repaired_can laws.refreshed core is)
   each (order.Eval name values b) range held = not_missing _ (computed (order.Eval name values b) range held tt)

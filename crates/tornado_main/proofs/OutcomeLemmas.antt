@@ -157,16 +157,16 @@ module _ (law : AttacksAreTheViews) (left_columns : LeftColumnsDoNotLeak ℕ) (d
   found_of : (row : List Bool) → length row ≡ count → IsLeak products (set_of row) → CanHaveOutcome (IsVerdict core)
   found_of row len is none =
       derivations.exists products (set_of row) is (λ made.
-          let derived : IsDerivation products (set_of row) made.0 made.1 = made.2 in
-          let d : Derivation = record { leak = row; steps = made.0; root = made.1 } in
-          let listing = listing_of (unfolding_of made.0 made.1) in
-          let attack = unfolding_is_attack products (set_of row) made.0 made.1
-          (derivations.within products (set_of row) made.0 made.1 derived)
-          (derivations.in_order products (set_of row) made.0 made.1 derived)
-          (derivations.sound products (set_of row) made.0 made.1 derived) in
-          let of_leak = attack_of_leak law core is_core (core_view core) refl row d listing.0 refl len derived attack listing.1 in
-          let all : Attack = record { derivation = d; listing = listing.0 } in
-          none (answers (attack_text (core_view core) all) status.Found, found all of_leak, tt))
+      let derived : IsDerivation products (set_of row) made.0 made.1 = made.2 in
+      let d : Derivation = record { leak = row; steps = made.0; root = made.1 } in
+      let listing = listing_of (unfolding_of made.0 made.1) in
+      let attack = unfolding_is_attack products (set_of row) made.0 made.1
+      (derivations.within products (set_of row) made.0 made.1 derived)
+      (derivations.in_order products (set_of row) made.0 made.1 derived)
+      (derivations.sound products (set_of row) made.0 made.1 derived) in
+      let of_leak = attack_of_leak law core is_core (core_view core) refl row d listing.0 refl len derived attack listing.1 in
+      let all : Attack = record { derivation = d; listing = listing.0 } in
+      none (answers (attack_text (core_view core) all) status.Found, found all of_leak, tt))
 
   found_can : HasAttack products → CanHaveOutcome (IsVerdict core)
   found_can has =
@@ -194,9 +194,12 @@ module _ (law : AttacksAreTheViews) (left_columns : LeftColumnsDoNotLeak ℕ) (d
   pub confirmation_can : (attack : Attack) → InRange (core_view core) attack → CanHaveOutcome (IsConfirmation core attack)
   confirmation_can attack range none =
       let not : ¬ Holds (core_view core) attack = λ does.
-      none (answers (codes "attack holds\n") status.Done,
-      holds_so law core is_core (core_view core) refl attack range.leak does
-      (leaks_by attack.derivation attack.listing range.products range.order does), tt) in
+      none (
+        answers (codes "attack holds\n") status.Done,
+        holds_so law core is_core (core_view core) refl attack range.leak does
+            (leaks_by attack.derivation attack.listing range.products range.order does),
+        tt,
+      ) in
       none (answers (codes "no attack\n") status.Found, fails not, tt)
 
 -- ---- sets of refreshes
@@ -264,7 +267,7 @@ module _ (laws : AttacksOnRefreshedCores) (core : Circuit) (is_core : IsCore cor
   leave_out k marks is safe = record {
     count = length-cleared k marks ∙ is.count;
     secure = λ attacked. safe (laws.fewer core (without k (marked marks)) (marked (cleared k marks)) is_core
-    (λ j e. let h = without_true (marked marks) k j e in true_cleared k marks j h.0 h.1) attacked);
+        (λ j e. let h = without_true (marked marks) k j e in true_cleared k marks j h.0 h.1) attacked);
     needed = λ j l e.
         let h = cleared_true k marks j e in
         let before : j < k = (let other = h.1 in below j k l other) in
@@ -274,7 +277,7 @@ module _ (laws : AttacksOnRefreshedCores) (core : Circuit) (is_core : IsCore cor
   }
     where
       below : (j k : ℕ) → j < suc k → (j ≡ k → ⊥) → j < k
-      below j k l other = elim (cases_lt j k) [ | inl h ↦ h | inr h ↦ absurd (other (omega (arith, h, l))) ]
+      below j k l other = elim (cases_lt j k) [ inl h ↦ h | inr h ↦ absurd (other (omega (arith, h, l))) ]
 
   keep : (k : ℕ) (marks : List Bool) → IsRepairTo k marks → IsAttackedWith core (without k (marked marks)) → IsRepairTo (suc k) marks
   keep k marks is attacked = record {
@@ -287,7 +290,7 @@ module _ (laws : AttacksOnRefreshedCores) (core : Circuit) (is_core : IsCore cor
   }
     where
       before : (j : ℕ) → j < suc k → (j ≡ k → ⊥) → j < k
-      before j l other = elim (cases_lt j k) [ | inl h ↦ h | inr h ↦ absurd (other (omega (arith, h, l))) ]
+      before j l other = elim (cases_lt j k) [ inl h ↦ h | inr h ↦ absurd (other (omega (arith, h, l))) ]
 
   repair_to : (k : ℕ) → ¬ ¬ ((marks : List Bool) × IsRepairTo k marks)
   repair_to zero none = none (replicate many true, all_repair)
@@ -313,8 +316,11 @@ module _ (laws : AttacksOnRefreshedCores) (core : Circuit) (is_core : IsCore cor
     masked_can word fits none = repair_to many (λ made.
         let set = marked made.0 in
         let form = forms (refreshed_core core set) (size.core core set is_core) (bits_of_c word core.width) in
-        none (answers (c_text form.0) status.Done,
-        masked form.0 (record { is_core = is_core; fits = fits; set = set; repairs = repairs made.0 made.1; form = form.1 }), tt))
+        none (
+          answers (c_text form.0) status.Done,
+          masked form.0 (record { is_core = is_core; fits = fits; set = set; repairs = repairs made.0 made.1; form = form.1 }),
+          tt,
+        ))
 
     pub compiled_can : (word : Option ℕ) → IfSome word IsWordSize → CanHaveOutcome (IsCompiled file word core)
     compiled_can None sized = masked_can None tt

@@ -1,5 +1,5 @@
 -- Rows of bits in 64-bit words.
-use Rattle.std.proofs.Common.{◌≡◌, ◌↔◌, ℕ, ◌+◌, ◌*◌, ◌/◌, ◌%◌, ◌^◌, ◌<◌, ◌≤◌, zero, suc, Bool, true, false, not, List, length, get_or, set, map, replicate, bit_and, bit_xor, eqb, IsTrue, Option, Some, None, MatchOption, refl, sym, ap, ◌∙◌, subst, inl, inr, arith}
+use Rattle.std.proofs.Common.{◌≡◌, ◌≢◌, ◌↔◌, ℕ, ◌+◌, ◌*◌, ◌/◌, ◌%◌, ◌^◌, ◌<◌, ◌≤◌, zero, suc, Bool, true, false, not, List, length, get_or, set, map, replicate, bit_and, bit_xor, eqb, IsTrue, Option, Some, None, MatchBool, MatchOption, refl, sym, ap, ◌∙◌, subst, inl, inr, arith}
 use Rattle.std.specs.Bool.{beq}
 use Rattle.std.specs.List.{range_with_len}
 use Rattle.std.specs.Simd.Lanes.{zip2}
@@ -199,6 +199,15 @@ pub bits-zeros : (columns n : ℕ) → bits_of columns (replicate n 0) ≡ repli
 bits-zeros columns n =
     bits_from columns (replicate n 0) (replicate columns false) (length-replicate columns false) (λ c h. zeros_unset n c ∙ sym (get_or-replicate columns c false false h))
 
+-- rows whose words differ in a column differ
+pub rows_compared : (a b : ℕ) (words others : List ℕ) (same : Bool) → IsPadded a words → IsPadded b others → a ≡ b
+    → MatchBool same (words ≡ others) (is_set words ≢ is_set others)
+    → MatchBool same (bits_of a words ≡ bits_of b others) (bits_of a words ≢ bits_of b others)
+rows_compared a b words others true padded padded_others columns e =
+    ap (λ n. bits_of n words) columns ∙ ap (λ ws. bits_of b ws) e
+rows_compared a b words others false padded padded_others columns differ =
+    λ e. differ (sym (set_of-bits a words padded) ∙ ap set_of e ∙ set_of-bits b others padded_others)
+
 -- the test of one bit
 pub bit_test : (words : List ℕ) (c : ℕ) (word : ℕ) → word ≡ get_or words (c / 64) 0 → eqb (bit_and (word / 2 ^ (c % 64)) 1) 1 ≡ is_set words c
 unfolding is_set
@@ -247,14 +256,6 @@ last_of_all row columns (Some b) e last = (
   },
 )
 
--- the first bit of the words is the first column of the row
-pub first_column : (columns : ℕ) (words : List ℕ) (b : ℕ) → IsPadded columns words → IsFirst (is_set words) b
-    → (b < length (bits_of columns words)) × IsFirst (set_of (bits_of columns words)) b
-first_column columns words b padded first =
-    let inside : b < columns = elim (cases_lt b columns) [ inl lt ↦ lt | inr ge ↦ absurd (false≢true (sym (padded.clear b ge) ∙ first.there)) ] in
-    let P : Columns ℕ → Type 0 = λ row. IsFirst row b in
-    (omega (arith, length-bits columns words), subst P (sym (set_of-bits columns words padded)) first)
-
 -- the first bit of the words from a place on is the first column of the row from there on
 pub first_column_from : (columns : ℕ) (words : List ℕ) (start b : ℕ) → IsPadded columns words → IsFirstFrom (is_set words) start b
     → (b < length (bits_of columns words)) × IsFirstFrom (set_of (bits_of columns words)) start b
@@ -268,9 +269,15 @@ pub no_column_from : (columns : ℕ) (words : List ℕ) (start : ℕ) → IsPadd
     → (c : ℕ) → start ≤ c → set_of (bits_of columns words) c ≡ false
 no_column_from columns words start padded none c h = bit-bits columns words padded c ∙ none c h
 
--- a row of words with no bit is the empty set
-pub no_column : (columns : ℕ) (words : List ℕ) → IsPadded columns words → ((c : ℕ) → is_set words c ≡ false) → set_of (bits_of columns words) ≡ empty
-no_column columns words padded none = set_of-bits columns words padded ∙ fun_ext none
+-- the least column from 0 on is the least of all
+pub first_of_all : (row : Columns ℕ) (bound : ℕ) (o : Option ℕ)
+    → MatchOption o ((c : ℕ) → 0 ≤ c → row c ≡ false) (λ c. (c < bound) × IsFirstFrom row 0 c)
+    → MatchOption o (row ≡ empty) (λ c. (c < bound) × IsFirst row c)
+first_of_all row bound None none = fun_ext (λ c. none c (omega arith))
+first_of_all row bound (Some b) first = (
+  first.0,
+  record { there = first.1.there; none_before = λ c before. first.1.none_before c (omega arith) before },
+)
 
 -- the test whether there is a first column
 pub no_first : (row : Columns ℕ) (o : Option ℕ) (none : Bool) (bound : ℕ) → is_some o ≡ not none → MatchOption o (row ≡ empty) (λ c. (c < bound) × IsFirst row c)

@@ -3,13 +3,13 @@ use Rattle.std.proofs.Common.{◌∷◌, [], zero, bit_or, ◌≡◌, ℕ, suc, 
 use Rattle.std.specs.Simd.Lanes.{zip2, chunk, put_chunk, fold_l}
 use Rattle.std.specs.Int.{bit_at, trailing_zeros, w64}
 use Rattle.std.proofs.lemmas.Simd.{length-chunk, length-zip2, length-put_chunk, get_or-zip2, get_or-chunk, get_or-put_chunk_at, get_or-put_chunk_below, get_or-put_chunk_above}
-use Rattle.std.proofs.lemmas.Bool.{cases_lt, cases_eq, eqb-false}
+use Rattle.std.proofs.lemmas.Bool.{cases_lt, cases_eq, cases_Bool, eqb-true, eqb-false}
 use Rattle.std.proofs.lemmas.List.{same_lists, get_or_default, get_or_past, length-set, get_or-set_same, get_or-set_other}
 use Rattle.std.proofs.lemmas.Nat.{xor_comm, le_or_l, le_or_r, pow-add}
 use Rattle.std.proofs.Math.Nat.{div-div-eq-div-mul, div-le_self}
-use Rattle.std.proofs.lemmas.Nat.Bits.{bit_at-zero, bit_at-trailing_zeros, bit_at-lt, same_from_bits_below, bit_at_and, bit_at_ones, bit_at_ones_above, bit_at_above, bit_at_cat_high}
+use Rattle.std.proofs.lemmas.Nat.Bits.{bit_at-zero, bit_at-trailing_zeros, bit_at-lt, same_from_bits_below, same_from_bits, bit_at_xor, bit_at_and, bit_at_ones, bit_at_ones_above, bit_at_above, bit_at_cat_high}
 use Rattle.gf2_span.specs.Words.{is_set, IsLastBelow}
-use Rattle.gf2_span.specs.Rows.{IsFirst, IsFirstFrom}
+use Rattle.gf2_span.specs.Rows.{IsFirstFrom}
 
 -- the words before `at` are those of the sum, and the others are as they were
 pub record IsAddedBelow (old other new : List ℕ) (at : ℕ) : Type 0 where
@@ -99,38 +99,38 @@ pub zero_unset : (words : List ℕ) (c : ℕ) → get_or words (c / 64) 0 ≡ 0 
 unfolding is_set
 zero_unset words c zero_word = ap (λ w. eqb (bit_at w (c % 64)) 1) zero_word ∙ ap (λ b. eqb b 1) (bit_at-zero (c % 64))
 
--- the lowest one of the first word that is not zero
-pub first_found : (words : List ℕ) (at : ℕ) → ((k : ℕ) → k < at → get_or words k 0 ≡ 0) → 0 < get_or words at 0 → get_or words at 0 < 2 ^ 64
-    → IsFirst (is_set words) (64 * at + trailing_zeros w64 (get_or words at 0))
+-- whether a column is set, by its word and its bit
+set_as : (words : List ℕ) (at i : ℕ) → i < 64 → is_set words (64 * at + i) ≡ eqb (bit_at (get_or words at 0) i) 1
 unfolding is_set
-first_found words at zeros some fits =
-    let found = bit_at-trailing_zeros w64 (get_or words at 0) some fits in
-    let low : ℕ = trailing_zeros w64 (get_or words at 0) in
-    let below : low < 64 = found.0 in
-    let word_at : (64 * at + low) / 64 ≡ at = omega arith in
-    let bit_in : (64 * at + low) % 64 ≡ low = omega arith in
-    record {
-      there = ap (λ b. eqb b 1) (ap (λ i. bit_at (get_or words i 0) ((64 * at + low) % 64)) word_at ∙ ap (λ i. bit_at (get_or words at 0) i) bit_in ∙ found.1);
-      none_before = λ c h. elim (cases_lt (c / 64) at) [
-        | inl lt ↦ zero_unset words c (zeros (c / 64) lt)
-        | inr ge ↦
-            let here : c / 64 ≡ at = omega arith in
-            let under : c % 64 < low = omega arith in
-            ap (λ b. eqb b 1) (ap (λ i. bit_at (get_or words i 0) (c % 64)) here ∙ found.2 (c % 64) under)
-      ];
-    }
+set_as words at i h =
+    let word_at : (64 * at + i) / 64 ≡ at = omega arith in
+    let bit_in : (64 * at + i) % 64 ≡ i = omega arith in
+    ap (λ j. eqb (bit_at (get_or words j 0) ((64 * at + i) % 64)) 1) word_at ∙ ap (λ j. eqb (bit_at (get_or words at 0) j) 1) bit_in
+
+same_bit : (x y : ℕ) → x < 2 → y < 2 → eqb x 1 ≡ eqb y 1 → x ≡ y
+same_bit x y h k e = elim (cases_Bool (eqb y 1)) [
+  | inl one ↦ eqb-true x 1 (e ∙ one) ∙ sym (eqb-true y 1 one)
+  | inr none ↦
+      let x_not : x ≡ 1 → ⊥ = eqb-false x 1 (e ∙ none) in
+      let y_not : y ≡ 1 → ⊥ = eqb-false y 1 none in
+      omega arith
+]
+
+-- words with the same bits at a place are the same there
+pub same_word : (words other : List ℕ) (k : ℕ) → get_or words k 0 < 2 ^ 64 → get_or other k 0 < 2 ^ 64
+    → ((c : ℕ) → c / 64 ≡ k → is_set words c ≡ is_set other c) → get_or words k 0 ≡ get_or other k 0
+same_word words other k fits other_fits same =
+    same_from_bits_below 64 (get_or words k 0) (get_or other k 0) fits other_fits (λ i h.
+    let e : eqb (bit_at (get_or words k 0) i) 1 ≡ eqb (bit_at (get_or other k 0) i) 1 =
+    sym (set_as words k i h) ∙ same (64 * k + i) (omega arith) ∙ set_as other k i h in
+    same_bit (bit_at (get_or words k 0) i) (bit_at (get_or other k 0) i) (bit_at-lt (get_or words k 0) i)
+    (bit_at-lt (get_or other k 0) i) e)
 
 -- a word with no bit is zero
 pub zero_word : (words : List ℕ) (k : ℕ) → get_or words k 0 < 2 ^ 64 → ((c : ℕ) → c / 64 ≡ k → is_set words c ≡ false) → get_or words k 0 ≡ 0
-unfolding is_set
-zero_word words k fits none = same_from_bits_below 64 (get_or words k 0) 0 fits (omega arith) (λ i h.
-    let word_at : (64 * k + i) / 64 ≡ k = omega arith in
-    let bit_in : (64 * k + i) % 64 ≡ i = omega arith in
-    let e : eqb (bit_at (get_or words k 0) i) 1 ≡ false =
-    sym (ap (λ j. eqb (bit_at (get_or words j 0) ((64 * k + i) % 64)) 1) word_at ∙ ap (λ j. eqb (bit_at (get_or words k 0) j) 1) bit_in) ∙ none (64 * k + i) word_at in
-    let apart : bit_at (get_or words k 0) i ≡ 1 → ⊥ = eqb-false (bit_at (get_or words k 0) i) 1 e in
-    let zero_bit : bit_at 0 i ≡ 0 = bit_at-zero i in
-    omega (arith, bit_at-lt (get_or words k 0) i))
+zero_word words k fits none =
+    let small : 0 < 2 ^ 64 = omega arith in
+    same_word words [] k fits small (λ c e. none c e ∙ sym (zero_unset [] c refl))
 
 xor_zero : (a b : ℕ) → b ≡ 0 → a ≡ bit_xor a b
 xor_zero a b e = rw e (sym (xor_comm a 0))
@@ -231,14 +231,6 @@ masked_below word rest i h =
 masked_above : (word rest i : ℕ) → rest ≤ i → bit_at (bit_and word (2 ^ rest - 1)) i ≡ 0
 masked_above word rest i h = bit_at_and word (2 ^ rest - 1) i ∙ ap (λ x. min (bit_at word i) x) (bit_at_ones_above rest i h) ∙ none_kept (bit_at word i)
 
--- whether a column is set, by its word and its bit
-set_as : (words : List ℕ) (at i : ℕ) → i < 64 → is_set words (64 * at + i) ≡ eqb (bit_at (get_or words at 0) i) 1
-unfolding is_set
-set_as words at i h =
-    let word_at : (64 * at + i) / 64 ≡ at = omega arith in
-    let bit_in : (64 * at + i) % 64 ≡ i = omega arith in
-    ap (λ j. eqb (bit_at (get_or words j 0) ((64 * at + i) % 64)) 1) word_at ∙ ap (λ j. eqb (bit_at (get_or words at 0) j) 1) bit_in
-
 set_there : (words : List ℕ) (at i : ℕ) → i < 64 → bit_at (get_or words at 0) i ≡ 1 → is_set words (64 * at + i) ≡ true
 set_there words at i h e = set_as words at i h ∙ ap (λ b. eqb b 1) e
 
@@ -306,16 +298,12 @@ last_wider words place end (Some b) fits none found = record {
 shifted : (word rest i : ℕ) → bit_at (word / 2 ^ rest) i ≡ bit_at word (rest + i)
 shifted word rest i = ap (λ n. n % 2) (div-div-eq-div-mul word (2 ^ rest) (2 ^ i) ∙ ap (λ p. word / p) (sym (pow-add 2 rest i)))
 
--- no column is set in the words past the last
-pub none_past_words : (words : List ℕ) (start : ℕ) → length words ≤ start / 64 → (c : ℕ) → start ≤ c → is_set words c ≡ false
-none_past_words words start past c h = zero_unset words c (get_or_past words (c / 64) 0 (omega arith))
-
 -- zero words from one on have no column
-pub none_set_from : (words : List ℕ) (from at : ℕ) → length words ≤ at → ((k : ℕ) → from ≤ k → k < at → get_or words k 0 ≡ 0)
-    → (c : ℕ) → 64 * from ≤ c → is_set words c ≡ false
-none_set_from words from at past zeros c h = elim (cases_lt (c / 64) at) [
+pub none_set_from : (words : List ℕ) (from at : ℕ) → ((c : ℕ) → 64 * at ≤ c → is_set words c ≡ false)
+    → ((k : ℕ) → from ≤ k → k < at → get_or words k 0 ≡ 0) → (c : ℕ) → 64 * from ≤ c → is_set words c ≡ false
+none_set_from words from at clear zeros c h = elim (cases_lt (c / 64) at) [
   | inl lt ↦ zero_unset words c (zeros (c / 64) (omega arith) lt)
-  | inr ge ↦ zero_unset words c (get_or_past words (c / 64) 0 (omega arith))
+  | inr ge ↦ clear c (omega arith)
 ]
 
 -- the lowest one of the first word that is not zero, from one on
@@ -397,3 +385,25 @@ pub block_zero : (words : List ℕ) (at k : ℕ) → fold_l bit_or 0 (chunk at 8
 block_zero words at k e low high =
     let same : at + (k - at) ≡ k = omega arith in
     subst (λ i. get_or words i 0 ≡ 0) same (sym (get_or-chunk at 8 words (k - at) 0 (omega arith)) ∙ word_zero (chunk at 8 words) 0 (k - at) e)
+
+-- numbers whose sum is zero are the same
+sum_zero : (a b : ℕ) → bit_xor a b ≡ 0 → a ≡ b
+sum_zero a b e = same_from_bits a b (λ i.
+    let none : (bit_at a i + bit_at b i) % 2 ≡ 0 = sym (bit_at_xor a b i) ∙ ap (λ n. bit_at n i) e ∙ bit_at-zero i in
+    omega (arith, bit_at-lt a i, bit_at-lt b i))
+
+-- the words of two blocks where the `or` of their sums is zero
+pub block_same : (words other : List ℕ) (at k : ℕ) → length words ≡ length other → at + 8 ≤ length other
+    → fold_l bit_or 0 (zip2 bit_xor (chunk at 8 words) (chunk at 8 other)) ≡ 0 → at ≤ k → k < at + 8
+    → get_or words k 0 ≡ get_or other k 0
+block_same words other at k long room e low high =
+    let words_8 : length (chunk at 8 words) ≡ 8 = length-chunk at 8 words (omega arith) in
+    let other_8 : length (chunk at 8 other) ≡ 8 = length-chunk at 8 other room in
+    let there : at + (k - at) ≡ k = omega arith in
+    let sum : bit_xor (get_or (chunk at 8 words) (k - at) 0) (get_or (chunk at 8 other) (k - at) 0) ≡ 0 =
+    sym (get_or-zip2 bit_xor (chunk at 8 words) (chunk at 8 other) (k - at) 0 0 0 (omega arith) (omega arith))
+    ∙ word_zero (zip2 bit_xor (chunk at 8 words) (chunk at 8 other)) 0 (k - at) e in
+    let same : get_or (chunk at 8 words) (k - at) 0 ≡ get_or (chunk at 8 other) (k - at) 0 =
+    sum_zero (get_or (chunk at 8 words) (k - at) 0) (get_or (chunk at 8 other) (k - at) 0) sum in
+    subst (λ i. get_or words i 0 ≡ get_or other i 0) there
+    (sym (get_or-chunk at 8 words (k - at) 0 (omega arith)) ∙ same ∙ get_or-chunk at 8 other (k - at) 0 (omega arith))

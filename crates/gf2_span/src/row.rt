@@ -1,12 +1,9 @@
-ghost use Rattle.std.specs.Prelude.{◌≡◌, ◌≢◌, ℕ, ◌<◌, ◌≤◌, ◌↔◌, length, not, true, false, slice_index_or, slice_set, replicate, IsTrue, IfOk, MatchOption};
-ghost use Rattle.std.specs.Bool.{OnTrue};
+ghost use Rattle.std.specs.Prelude.{◌≡◌, ◌≢◌, ℕ, ◌<◌, ◌≤◌, ◌↔◌, length, not, true, false, slice_index_or, slice_set, replicate, IsTrue, IfOk, MatchBool, MatchOption};
 ghost use Rattle.span_model.specs.Columns.{set_of, empty, ◌△◌};
 ghost use Rattle.gf2_span.specs.Rows.{IsFirst, IsFirstFrom, IsLast};
 ghost use Rattle.gf2_span.specs.Words.{IsLastBelow};
 
-use crate::words::{
-    add_words, are_same, first_bit, first_bit_from, greater, last_bit, lesser, overwrite_words,
-};
+use crate::words::{add_words, are_same, first_bit_from, last_bit, overwrite_words};
 use std::alloc::{AllocError, Global};
 use std::marker::Model;
 
@@ -77,7 +74,7 @@ impl BitRow {
     {
         let place = c as usize / 64;
         self.words[place] ^= 1 << (c % 64);
-        self.end = greater(self.end, place + 1);
+        self.end = self.end.max(place + 1);
     }
 
     /// The symmetric difference with another row.
@@ -87,17 +84,17 @@ impl BitRow {
         ensures sum { set_of self.new ≡ set_of self.old △ set_of other.now }
     {
         add_words(&mut self.words, &other.words, other.end);
-        self.end = greater(self.end, other.end);
+        self.end = self.end.max(other.end);
     }
 
-    /// Whether the row is found to be the same as another, over as many columns.
+    /// Whether the row is the same as another, over as many columns.
     pub fn equals(&self, other: &BitRow) -> bool
-        ensures { OnTrue result (self.now ≡ other.now) }
+        ensures { MatchBool result (self.now ≡ other.now) (self.now ≢ other.now) }
     {
-        if self.columns != other.columns || self.words.len() != other.words.len() {
+        if self.columns != other.columns {
             return false;
         }
-        are_same(&self.words, &other.words, greater(self.end, other.end))
+        are_same(&self.words, &other.words, self.end.max(other.end))
     }
 
     pub fn is_zero(&self) -> bool
@@ -110,17 +107,14 @@ impl BitRow {
     pub fn first(&self) -> Option<u32>
         ensures { MatchOption result (set_of self.now ≡ empty) (λ c. (c < length self.now) × IsFirst (set_of self.now) c) }
     {
-        match first_bit(&self.words, self.end) {
-            Some(c) => Some(c as u32),
-            None => None,
-        }
+        self.first_from(0)
     }
 
     /// The least column from `start` on.
     pub fn first_from(&self, start: u32) -> Option<u32>
         ensures { MatchOption result ((c : ℕ) → start ≤ c → set_of self.now c ≡ false) (λ c. (c < length self.now) × IsFirstFrom (set_of self.now) start c) }
     {
-        match first_bit_from(&self.words, start as usize) {
+        match first_bit_from(&self.words, start as usize, self.end) {
             Some(c) => Some(c as u32),
             None => None,
         }
@@ -138,7 +132,7 @@ impl BitRow {
         requires { end ≤ length self.now }
         ensures { MatchOption result ((c : ℕ) → c < end → set_of self.now c ≡ false) (λ c. IsLastBelow (set_of self.now) end c) }
     {
-        match last_bit(&self.words, lesser(end as usize, 64 * self.end)) {
+        match last_bit(&self.words, (end as usize).min(64 * self.end)) {
             Some(c) => Some(c as u32),
             None => None,
         }
@@ -149,7 +143,7 @@ impl BitRow {
         requires { (c : ℕ) → lead < c → set_of self.old c ≡ false }
         ensures { self.new ≡ self.old }
     {
-        self.end = lesser(self.end, lead as usize / 64 + 1);
+        self.end = self.end.min(lead as usize / 64 + 1);
     }
 
     // Makes the row equal to another.

@@ -1,8 +1,8 @@
 // The words of a row, 64 columns each, and the loops over them.
-ghost use Rattle.std.specs.Prelude.{◌≡◌, ℕ, ◌+◌, ◌*◌, ◌<◌, ◌≤◌, ◌^◌, ◌≢◌, length, slice_index, vec_len, bit_xor, MatchOption, false};
+ghost use Rattle.std.specs.Prelude.{◌≡◌, ℕ, ◌+◌, ◌*◌, ◌<◌, ◌≤◌, ◌^◌, ◌≢◌, length, slice_index, vec_len, bit_xor, MatchBool, MatchOption, false};
 ghost use Rattle.std.specs.Bool.{OnTrue};
 ghost use Rattle.std.specs.Simd.Lanes.{zip2, chunk, put_chunk};
-ghost use Rattle.gf2_span.specs.Rows.{IsFirst, IsFirstFrom};
+ghost use Rattle.gf2_span.specs.Rows.{IsFirstFrom};
 ghost use Rattle.gf2_span.specs.Words.{is_set, IsLastBelow};
 
 use std::simd::prelude::*;
@@ -94,48 +94,71 @@ pub(crate) fn overwrite_words(words: &mut Vec<u64>, old_end: usize, other: &[u64
     overwrite_slice(words.as_mut_slice(), old_end, other, end);
 }
 
+// Whether eight words are those of the other row.
+fn lanes_are_same(words: &[u64], other: &[u64], at: usize) -> bool
+    requires same { length words.now ≡ length other.now }
+    requires room { at + 8 ≤ length other.now }
+    ensures { OnTrue result
+        ((k : ℕ) → at ≤ k → k < at + 8 → slice_index words.now k ≡ slice_index other.now k) }
+{
+    let sum = u64x8::from_slice(&words[at..]) ^ u64x8::from_slice(&other[at..]);
+    sum.reduce_or() == 0
+}
+
 // Whether words are those of the other row, where both are zero from `end` on.
 pub(crate) fn are_same(words: &[u64], other: &[u64], end: usize) -> bool
     requires same { length words.now ≡ length other.now }
     requires within { end ≤ length other.now }
     requires clear { (c : ℕ) → 64 * end ≤ c → is_set words.now c ≡ false }
     requires other_clear { (c : ℕ) → 64 * end ≤ c → is_set other.now c ≡ false }
-    ensures { OnTrue result (words.now ≡ other.now) }
+    ensures { MatchBool result (words.now ≡ other.now) (is_set words.now ≢ is_set other.now) }
 {
-    for k in 0..end {
-        if words[k] != other[k] {
+    let mut at = 0;
+    while end - at >= LANES && lanes_are_same(words, other, at) {
+        at += LANES;
+    }
+    while at < end {
+        if words[at] != other[at] {
             return false;
         }
+        at += 1;
     }
     true
 }
 
-// The greater of two numbers.
-pub(crate) fn greater(a: usize, b: usize) -> usize
-    ensures first { a ≤ result }
-    ensures second { b ≤ result }
-    ensures least { (m : ℕ) → a ≤ m → b ≤ m → result ≤ m }
+// Whether eight words are zero.
+fn lanes_are_zero(words: &[u64], at: usize) -> bool
+    requires room { at + 8 ≤ length words.now }
+    ensures { OnTrue result ((k : ℕ) → at ≤ k → k < at + 8 → slice_index words.now k ≡ 0) }
 {
-    if a < b { b } else { a }
+    u64x8::from_slice(&words[at..]).reduce_or() == 0
 }
 
-// The lesser of two numbers.
-pub(crate) fn lesser(a: usize, b: usize) -> usize
-    ensures first { result ≤ a }
-    ensures second { result ≤ b }
-    ensures greatest { (m : ℕ) → result ≤ m → m < a → b ≤ m }
+// The number of a word from `from` on where those between are zero. Such words are passed over eight at a time.
+fn skipped(words: &[u64], from: usize, end: usize) -> usize
+    requires start { from ≤ end }
+    requires within { end ≤ length words.now }
+    ensures past { from ≤ result }
+    ensures zero { (k : ℕ) → from ≤ k → k < result → slice_index words.now k ≡ 0 }
 {
-    if a < b { a } else { b }
+    let mut at = from;
+    while end - at >= LANES && lanes_are_zero(words, at) {
+        at += LANES;
+    }
+    at
 }
 
-// The place of the first one in words of which those from `end` on are zero.
-pub(crate) fn first_bit(words: &[u64], end: usize) -> Option<usize>
+// The place of the first one from the word `from` on, in words of which those from `end` on are zero.
+fn first_in_words(words: &[u64], from: usize, end: usize) -> Option<usize>
     requires short { length words.now < 2 ^ 32 }
+    requires start { from ≤ end }
     requires within { end ≤ length words.now }
     requires clear { (c : ℕ) → 64 * end ≤ c → is_set words.now c ≡ false }
-    ensures { MatchOption result ((c : ℕ) → is_set words.now c ≡ false) (λ b. IsFirst (is_set words.now) b) }
+    ensures { MatchOption result
+        ((c : ℕ) → 64 * from ≤ c → is_set words.now c ≡ false)
+        (λ b. IsFirstFrom (is_set words.now) (64 * from) b) }
 {
-    let mut at = 0;
+    let mut at = skipped(words, from, end);
     while at < end {
         let word = words[at];
         if word != 0 {
@@ -146,44 +169,24 @@ pub(crate) fn first_bit(words: &[u64], end: usize) -> Option<usize>
     None
 }
 
-// The place of the first one from the word `from` on.
-fn first_in_words(words: &[u64], from: usize) -> Option<usize>
-    requires { length words.now < 2 ^ 32 }
-    ensures { MatchOption result ((c : ℕ) → 64 * from ≤ c → is_set words.now c ≡ false) (λ b. IsFirstFrom (is_set words.now) (64 * from) b) }
-{
-    let mut at = from;
-    while at < words.len() {
-        let word = words[at];
-        if word != 0 {
-            return Some(64 * at + word.trailing_zeros() as usize);
-        }
-        at += 1;
-    }
-    None
-}
-
-// The place of the first one from `start` on.
-pub(crate) fn first_bit_from(words: &[u64], start: usize) -> Option<usize>
-    requires { length words.now < 2 ^ 32 }
-    ensures { MatchOption result ((c : ℕ) → start ≤ c → is_set words.now c ≡ false) (λ b. IsFirstFrom (is_set words.now) start b) }
+// The place of the first one from `start` on, in words of which those from `end` on are zero.
+pub(crate) fn first_bit_from(words: &[u64], start: usize, end: usize) -> Option<usize>
+    requires short { length words.now < 2 ^ 32 }
+    requires within { end ≤ length words.now }
+    requires clear { (c : ℕ) → 64 * end ≤ c → is_set words.now c ≡ false }
+    ensures { MatchOption result
+        ((c : ℕ) → start ≤ c → is_set words.now c ≡ false)
+        (λ b. IsFirstFrom (is_set words.now) start b) }
 {
     let at = start / 64;
-    if at >= words.len() {
+    if at >= end {
         return None;
     }
     let word = words[at] >> (start % 64);
     if word != 0 {
         return Some(start + word.trailing_zeros() as usize);
     }
-    first_in_words(words, at + 1)
-}
-
-// Whether eight words are zero.
-fn lanes_are_zero(words: &[u64], at: usize) -> bool
-    requires room { at + 8 ≤ length words.now }
-    ensures { OnTrue result ((k : ℕ) → at ≤ k → k < at + 8 → slice_index words.now k ≡ 0) }
-{
-    u64x8::from_slice(&words[at..]).reduce_or() == 0
+    first_in_words(words, at + 1, end)
 }
 
 // How many of so many words are left without some of the zero words at their end, which are taken eight at a time.

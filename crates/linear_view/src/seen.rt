@@ -1,6 +1,5 @@
 // Rows of operands that were seen, so that equal ones are held once.
-ghost use Rattle.std.specs.Prelude.{◌≡◌, ℕ, length, IfOk, IfSome};
-ghost use Rattle.std.specs.Bool.{OnTrue};
+ghost use Rattle.std.specs.Prelude.{◌≡◌, ◌≢◌, ℕ, length, IfOk, IfSome, MatchBool};
 
 use gf2_span::BitRow;
 use std::alloc::{AllocError, Global};
@@ -84,7 +83,7 @@ fn ends(row: &BitRow) -> usize {
 }
 
 fn are_equal(a: &[BitRow], b: &[BitRow]) -> bool
-    ensures { OnTrue result (a.now ≡ b.now) }
+    ensures { MatchBool result (a.now ≡ b.now) (a.now ≢ b.now) }
 {
     if a.len() != b.len() {
         return false;

@@ -1,5 +1,5 @@
 -- Classes of a single row.
-use Rattle.std.proofs.Common.{◌≡◌, ℕ, zero, suc, ◌<◌, Bool, true, false, List, [], ◌∷◌, length, get_or, refl, sym, ap, ◌∙◌, subst, arith, Some}
+use Rattle.std.proofs.Common.{◌≡◌, ◌≢◌, MatchBool, ℕ, zero, suc, ◌<◌, Bool, true, false, List, [], ◌∷◌, length, get_or, refl, sym, ap, ◌∙◌, subst, arith, Some}
 use Rattle.std.specs.Bool.{OnTrue}
 use Rattle.std.specs.List.{Contains, slice_get}
 use Rattle.std.proofs.lemmas.Option.{get_or_from_slice_get, slice_get_within}
@@ -18,7 +18,7 @@ single (row ∷ []) only one at = ap (λ (r : List Bool). r ∷ []) (sym at)
 single (row ∷ other ∷ rows) only one at = absurd (omega (arith, one))
 
 pub single_if : (rows : List (List Bool)) (only row : List Bool) (same : Bool) → length rows ≡ 1 → only ≡ get_or rows 0 only
-    → OnTrue same (only ≡ row) → OnTrue same (rows ≡ row ∷ [])
+    → MatchBool same (only ≡ row) (only ≢ row) → OnTrue same (rows ≡ row ∷ [])
 single_if rows only row false one at answer = tt
 single_if rows only row true one at answer = single rows only one at ∙ ap (λ (r : List Bool). r ∷ []) answer
 

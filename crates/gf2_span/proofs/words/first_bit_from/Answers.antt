@@ -1,9 +1,9 @@
 use Rattle.std.proofs.Common.{◌/◌, ◌%◌, ◌^◌, ◌<◌, ◌≡◌, get_or, arith}
-use Rattle.gf2_span.proofs.Kernels.{none_past_words, first_of_part, first_narrower}
+use Rattle.gf2_span.proofs.Kernels.{first_of_part, first_narrower}
 use Rattle.gf2_span.proofs.words.first_bit_from.Goals as goal
 
-pub returns-then-at-words : goal.returns-then-at-words
-returns-then-at-words c = none_past_words c.args.words.now c.args.start (omega arith)
+pub returns-then-at-end : goal.returns-then-at-end
+returns-then-at-end c = λ d h. c.requires.clear d (omega arith)
 
 pub returns-then-word-ne0 : goal.returns-then-word-ne0
 returns-then-word-ne0 c =

@@ -9,4 +9,5 @@ returns-then-word-ne0 c =
     first_found_from c.args.words.now c.args.from c.loop-at.at c.loop-at.invariant.past c.loop-at.invariant.zero some fits
 
 pub returns : goal.returns
-returns c = none_set_from c.args.words.now c.args.from c.loop-at.at (omega arith) c.loop-at.invariant.zero
+returns c =
+    none_set_from c.args.words.now c.args.from c.loop-at.at (λ d h. c.requires.clear d (omega arith)) c.loop-at.invariant.zero

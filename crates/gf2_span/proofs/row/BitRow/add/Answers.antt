@@ -20,10 +20,10 @@ pub invariant_of-self : goal.invariant_of-self
 invariant_of-self c =
     let same : length (bits_of c.self.inside.columns c.self.inside.words.items) ≡ length (bits_of c.other.inside.columns c.other.inside.words.items) = rw (c.self.view_is, c.other.view_is) c.requires in
     let row : IsRow c.self.inside.columns c.other.inside.words.items c.other.inside.end = other_row c.self.inside.columns c.other.inside.columns c.self.inside.words.items c.other.inside.words.items c.other.inside.end same c.other.invariant in
-    let fits : c.greater-self-inside.result ≤ length c.self.inside.words.items =
-    c.greater-self-inside.ensures.least (length c.self.inside.words.items) c.self.invariant.within (omega (arith, row.within, row.padded.long, c.self.invariant.padded.long)) in
-    rw (c.add_words.ensures, c.deref.ensures.value) (row_sum c.self.inside.columns c.self.inside.words.items c.other.inside.words.items c.self.inside.end c.other.inside.end c.greater-self-inside.result
-    c.self.invariant row c.greater-self-inside.ensures.first c.greater-self-inside.ensures.second fits)
+    let fits : c.max-self-inside.result ≤ length c.self.inside.words.items =
+    omega (arith, c.max-self-inside.ensures, c.self.invariant.within, row.within, row.padded.long, c.self.invariant.padded.long) in
+    rw (c.add_words.ensures, c.deref.ensures.value) (row_sum c.self.inside.columns c.self.inside.words.items c.other.inside.words.items c.self.inside.end c.other.inside.end c.max-self-inside.result
+    c.self.invariant row (omega (arith, c.max-self-inside.ensures)) (omega (arith, c.max-self-inside.ensures)) fits)
 
 pub returns-clause-columns : goal.returns-clause-columns
 returns-clause-columns c =

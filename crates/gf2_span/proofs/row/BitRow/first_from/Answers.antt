@@ -4,6 +4,12 @@ use Rattle.gf2_span.specs.Rows.{IsFirstFrom}
 use Rattle.gf2_span.proofs.Bits.{first_column_from, no_column_from}
 use Rattle.gf2_span.proofs.row.BitRow.first_from.Goals as goal
 
+pub first_bit_from-requires-clause-within : goal.first_bit_from-requires-clause-within
+first_bit_from-requires-clause-within c = rw c.deref.ensures.value c.self.invariant.within
+
+pub first_bit_from-requires-clause-clear : goal.first_bit_from-requires-clause-clear
+first_bit_from-requires-clause-clear c = rw c.deref.ensures.value c.self.invariant.rest
+
 pub returns-in-Some : goal.returns-in-Some
 returns-in-Some c =
     let first : IsFirstFrom (is_set c.self.inside.words.items) c.args.start c.in-Some.c = rw (← c.deref.ensures.value) c.in-Some.ensures in

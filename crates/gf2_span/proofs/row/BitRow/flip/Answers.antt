@@ -23,8 +23,8 @@ invariant_of-self c =
     let e : c.index_mut.result.now ≡ get_or c.self.inside.words.items (c.args.c / 64) 0 =
     c.index_mut.ensures.value ∙ get_or_default c.self.inside.words.items (c.args.c / 64) c.index_mut.result.now 0 (in_words c.self.inside.columns c.args.c c.self.inside.words.items inside c.self.invariant.padded.long) in
     let word : c.args.c / 64 < length c.self.inside.words.items = in_words c.self.inside.columns c.args.c c.self.inside.words.items inside c.self.invariant.padded.long in
-    rw e (row_flipped c.self.inside.columns c.self.inside.words.items c.self.inside.end c.args.c c.greater-self-inside.result c.self.invariant inside
-    c.greater-self-inside.ensures.first c.greater-self-inside.ensures.second (c.greater-self-inside.ensures.least (length c.self.inside.words.items) c.self.invariant.within (omega arith)))
+    rw e (row_flipped c.self.inside.columns c.self.inside.words.items c.self.inside.end c.args.c c.max-self-inside.result c.self.invariant inside
+    (omega (arith, c.max-self-inside.ensures)) (omega (arith, c.max-self-inside.ensures)) (omega (arith, c.max-self-inside.ensures, c.self.invariant.within)))
 
 pub returns : goal.returns
 returns c =

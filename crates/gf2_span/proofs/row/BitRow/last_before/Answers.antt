@@ -11,20 +11,20 @@ pub last_bit-requires-clause-within : goal.last_bit-requires-clause-within
 last_bit-requires-clause-within c =
     let end : c.args.end ≤ length (bits_of c.self.inside.columns c.self.inside.words.items) = rw c.self.view_is c.requires in
     let all : c.args.end ≤ 64 * length c.self.inside.words.items = in_words c.self.inside.columns c.args.end c.self.inside.words.items end c.self.invariant.padded.long in
-    rw c.deref.ensures.value (omega (arith, c.lesser.ensures.first))
+    rw c.deref.ensures.value (omega (arith, c.min.ensures))
 
 pub returns-in-Some : goal.returns-in-Some
 returns-in-Some c =
-    let found : IsLastBelow (is_set c.self.inside.words.items) c.lesser.result c.in-Some.c = rw (← c.deref.ensures.value) c.in-Some.ensures in
+    let found : IsLastBelow (is_set c.self.inside.words.items) c.min.result c.in-Some.c = rw (← c.deref.ensures.value) c.in-Some.ensures in
     let last : IsLastBelow (is_set c.self.inside.words.items) c.args.end c.in-Some.c =
-    last_wider c.self.inside.words.items c.lesser.result c.args.end (Some c.in-Some.c) c.lesser.ensures.first
-    (λ d low high. c.self.invariant.rest d (c.lesser.ensures.greatest d low high)) found in
+    last_wider c.self.inside.words.items c.min.result c.args.end (Some c.in-Some.c) (omega (arith, c.min.ensures))
+    (λ d low high. c.self.invariant.rest d (omega (arith, c.min.ensures))) found in
     rw (← c.self.view_is) (last_column c.self.inside.columns c.self.inside.words.items c.args.end c.in-Some.c c.self.invariant.padded last)
 
 pub returns-in-None : goal.returns-in-None
 returns-in-None c =
-    let found : (d : ℕ) → d < c.lesser.result → is_set c.self.inside.words.items d ≡ false = rw (← c.deref.ensures.value) c.in-None.ensures in
+    let found : (d : ℕ) → d < c.min.result → is_set c.self.inside.words.items d ≡ false = rw (← c.deref.ensures.value) c.in-None.ensures in
     let none : (d : ℕ) → d < c.args.end → is_set c.self.inside.words.items d ≡ false =
-    last_wider c.self.inside.words.items c.lesser.result c.args.end None c.lesser.ensures.first
-    (λ d low high. c.self.invariant.rest d (c.lesser.ensures.greatest d low high)) found in
+    last_wider c.self.inside.words.items c.min.result c.args.end None (omega (arith, c.min.ensures))
+    (λ d low high. c.self.invariant.rest d (omega (arith, c.min.ensures))) found in
     rw (← c.self.view_is) (no_column_below c.self.inside.columns c.self.inside.words.items c.args.end c.self.invariant.padded none)

@@ -38,11 +38,12 @@ OrdersAreInRange = (words : List Text) (order : Order) → order_of words ≡ So
 abbrev pub FileAlone : Type 0
 FileAlone = order_of (codes "check" ∷ codes "f.ua" ∷ []) ≡ Some (order.Check (codes "f.ua") (basis.Source None None))
 
--- an option stands before the file or after it, with its value in a word of its own or after `=`
+-- an option stands after the file, with its value in a word of its own
 abbrev pub OptionAfter : Type 0
 OptionAfter = order_of (codes "check" ∷ codes "f.ua" ∷ codes "--width" ∷ codes "8" ∷ [])
     ≡ Some (order.Check (codes "f.ua") (basis.Source (Some 8) None))
 
+-- an option stands before the file, with its value after `=`
 abbrev pub OptionBefore : Type 0
 OptionBefore = order_of (codes "check" ∷ codes "--width=8" ∷ codes "f.ua" ∷ [])
     ≡ Some (order.Check (codes "f.ua") (basis.Source (Some 8) None))
@@ -64,12 +65,14 @@ abbrev pub WordOfCompile : Type 0
 WordOfCompile = order_of (codes "compile" ∷ codes "f.ua" ∷ codes "--word" ∷ codes "64" ∷ codes "--core" ∷ [])
     ≡ Some (order.Compile (codes "f.ua") (Some 64) basis.CoreText)
 
+-- with `repair` it is no order
 abbrev pub WordOfRepair : Type 0
 WordOfRepair = order_of (codes "repair" ∷ codes "f.ua" ∷ codes "--word" ∷ codes "64" ∷ []) ≡ None
 
--- what `clap` does not take has no order: a word too many, and a call for help
+-- a word too many is no order
 abbrev pub WordLeft : Type 0
 WordLeft = order_of (codes "gen" ∷ codes "1" ∷ codes "2" ∷ codes "3" ∷ []) ≡ None
 
+-- a call for help is no order
 abbrev pub NoHelp : Type 0
 NoHelp = order_of (codes "core" ∷ codes "f.ua" ∷ codes "--help" ∷ []) ≡ None

@@ -1,3 +1,4 @@
 mod Bindings
+mod Found
 mod Rows
 mod Statements

@@ -1,15 +1,16 @@
 //! Calls of gadgets.
-ghost use Rattle.std.specs.Prelude.{◌≡◌, ◌<◌, ◌^◌, [], ℕ, Some, None, option_copied, vec_items};
+ghost use Rattle.std.specs.Prelude.{◌≡◌, ◌<◌, ◌^◌, [], Some, None, vec_items};
 ghost use Rattle.std.specs.Option.{option_map};
 ghost use Rattle.c_machine.specs.Run as run;
 ghost use Rattle.c_machine.specs.State.Scopes.{meaning_of, scope_of};
 ghost use Rattle.c_machine.specs.State.Answers.{IsOutcome, IsBound, state_of};
+ghost use Rattle.c_machine.specs.State.Gadgets.{Finds};
 
+use crate::gadgets::{Gadgets, gadget_named};
 use crate::scope::{Meant, Named, add_name};
 use crate::statement::{Machine, Size, execute_all};
 use crate::stop::{Stop, Trap};
 use c_tree::{CArg, CCall, CFile, CFun, CParam};
-use tor_edge::Name;
 
 // The name of a parameter.
 fn parameter_name(parameter: &CParam) -> &str
@@ -48,18 +49,6 @@ fn argument_meaning(file: &CFile, argument: &CArg) -> Option<Meant>
     }
 }
 
-// The gadget of a name.
-fn gadget_named<'f>(gadgets: &'f [CFun], name: &Name) -> Option<&'f CFun>
-    ensures { option_copied result ≡ run.gadget_named gadgets.now name.now }
-{
-    for gadget in gadgets {
-        if gadget.name.as_str() == name.as_str() {
-            return Some(gadget);
-        }
-    }
-    None
-}
-
 // Brings the parameters of a gadget into scope, with what the arguments of a call stand for.
 fn bind<'f>(
     names: &mut Vec<Named<'f>>,
@@ -79,27 +68,46 @@ fn bind<'f>(
     Ok(())
 }
 
+// Does the body of a gadget with what the arguments of a call stand for; no name is in scope before it.
+fn do_body<'f>(
+    machine: &mut Machine<'f, '_>,
+    file: &CFile,
+    gadget: &'f CFun,
+    arguments: &[CArg],
+    size: Size,
+) -> Result<(), Stop>
+    requires { vec_items machine.old.names ≡ [] }
+    ensures { IsOutcome
+        (run.body_done size.shares size.bits gadget.now (state_of machine.old).memory (state_of machine.old).stream
+        (run.bound file.now gadget.now.params arguments.now))
+        result (state_of machine.new) }
+{
+    bind(
+        &mut machine.names,
+        file,
+        gadget.params.as_slice(),
+        arguments,
+    )?;
+    execute_all(machine, gadget.body.as_slice(), size)
+}
+
 /// Does a call of `masked`; the names in scope before it are forgotten.
 pub fn do_call<'f>(
     machine: &mut Machine<'f, '_>,
-    file: &'f CFile,
+    found: &Gadgets<'f>,
+    file: &CFile,
     call: &CCall,
     size: Size,
 ) -> Result<(), Stop>
-    requires { size.bits ≡ file.now.reg_bits }
+    requires bits { size.bits ≡ file.now.reg_bits }
+    requires found { Finds found.now file.now.gadgets }
     ensures { IsOutcome
         (run.called size.shares file.now call.now (state_of machine.old).memory (state_of machine.old).stream)
         result (state_of machine.new) }
 {
     machine.names.truncate(0);
-    let Some(gadget) = gadget_named(file.gadgets.as_slice(), &call.gadget) else {
-        return Ok(());
-    };
-    bind(
-        &mut machine.names,
-        file,
-        gadget.params.as_slice(),
-        call.args.as_slice(),
-    )?;
-    execute_all(machine, gadget.body.as_slice(), size)
+    match gadget_named(found, &call.gadget) {
+        Some(gadget) => do_body(machine, file, gadget, call.args.as_slice(), size),
+        None => Ok(()),
+    }
 }

@@ -4,6 +4,7 @@
 
 mod call;
 mod expression;
+mod gadgets;
 mod memory;
 mod run;
 mod scope;

@@ -2,9 +2,11 @@
 ghost use Rattle.std.specs.Prelude.{◌≡◌, ◌++◌, ◌*◌, ◌<◌, ◌≤◌, take, IfOk, IfErr, OnOk, Ok, length, vec_items};
 ghost use Rattle.c_machine.specs.Run.{machine_run, calls_done, words_of_rows, rows_of, zero_rows, start_memory, IsRunFault};
 ghost use Rattle.c_machine.specs.State.Answers.{state_of, IsEnding, fault_of};
+ghost use Rattle.c_machine.specs.State.Gadgets.{Finds};
 
 use crate::call::do_call;
 use crate::expression::Stream;
+use crate::gadgets::{Gadgets, gadgets_by_name};
 use crate::statement::{Machine, Size};
 use crate::stop::{RunFault, Stop, Trap};
 use c_tree::CFile;
@@ -77,15 +79,21 @@ fn fault_at(call: u64, stop: Stop) -> RunFault
 }
 
 // Does all calls of a file.
-fn do_calls<'f>(machine: &mut Machine<'f, '_>, file: &'f CFile, size: Size) -> Result<(), RunFault>
-    requires { size.bits ≡ file.now.reg_bits }
+fn do_calls<'f>(
+    machine: &mut Machine<'f, '_>,
+    found: &Gadgets<'f>,
+    file: &CFile,
+    size: Size,
+) -> Result<(), RunFault>
+    requires bits { size.bits ≡ file.now.reg_bits }
+    requires found { Finds found.now file.now.gadgets }
     ensures { IsEnding
         (calls_done size.shares file.now 0 file.now.calls (state_of machine.old).memory (state_of machine.old).stream)
         result (state_of machine.new).memory }
 {
     let calls = file.calls.as_slice();
     for k in 0..calls.len() {
-        if let Err(stop) = do_call(machine, file, &calls[k], size) {
+        if let Err(stop) = do_call(machine, found, file, &calls[k], size) {
             return Err(fault_at(k as u64, stop));
         }
     }
@@ -121,6 +129,7 @@ pub fn run_c(
     ensures answer { IfOk result (λ shared. machine_run shares file.now inputs.now words.now ≡ Ok shared) }
     ensures refused { IfErr result (IsRunFault (machine_run shares file.now inputs.now words.now)) }
 {
+    let found = gadgets_by_name(alloc, file.gadgets.as_slice())?;
     let rows = start(alloc, file, shares, inputs)?;
     let mut machine = Machine {
         names: Vec::new(alloc),
@@ -131,7 +140,7 @@ pub fn run_c(
         shares,
         bits: file.reg_bits,
     };
-    do_calls(&mut machine, file, size)?;
+    do_calls(&mut machine, &found, file, size)?;
     let shared = words_of(alloc, machine.rows.as_slice(), file.outputs)?;
     Ok(shared)
 }

@@ -1,6 +1,7 @@
--- Bounds that are raised.
-use Rattle.std.proofs.Common.{◌≡◌, ◌≢◌, inl, inr, ℕ, ◌+◌, ◌<◌, ◌≤◌, Bool, true, false, List, length, get_or, set, sym, ◌∙◌, subst, arith}
-use Rattle.std.proofs.lemmas.List.{get_or-set_other}
+-- Bounds that are raised, and the least of them.
+use Rattle.std.proofs.Common.{◌≡◌, ◌≢◌, inl, inr, ℕ, ◌+◌, ◌<◌, ◌≤◌, Bool, true, false, List, [], ◌∷◌, ◌++◌, length, get_or, set, take, min, refl, sym, ◌∙◌, subst, arith}
+use Rattle.std.proofs.lemmas.Bool.{cases_lt}
+use Rattle.std.proofs.lemmas.List.{get_or-set_other, get_or_push, get_or_append_left, length_push, take_more}
 use Rattle.span_model.specs.Columns.{Columns}
 use Rattle.span_model.specs.Attack.{Product, HasAttack}
 use Rattle.span_model.specs.AttackLaws.{LeaksAreClosed}
@@ -8,7 +9,7 @@ use Rattle.span_model.specs.Refresh.{left_out}
 use Rattle.tightprove.specs.Classes.{AreClassesOf}
 use Rattle.tightprove.specs.declared.gathered.Gathered.{Gathered}
 use Rattle.tightprove.specs.Private.Gathered.{beyond, rows_in, HasSameRows, HasNoLeak}
-use Rattle.tightprove.specs.Private.Bounds.{class_count, AreBounds, IsCleanTo, IsCleanBound, IsRestBound}
+use Rattle.tightprove.specs.Private.Bounds.{class_count, AreBounds, IsCleanTo, IsLeastOf, IsCleanBound, IsRestBound}
 use Rattle.tightprove.proofs.Leaving.{below_answer}
 use Rattle.tightprove.proofs.Settling.{at_set}
 
@@ -76,3 +77,43 @@ pub behind : (bounds old : List ℕ) (i b : ℕ) → ((k : ℕ) → i ≤ k → 
 behind bounds old i b before k h =
     let apart : k ≡ i → ⊥ = λ e. absurd (omega arith) in
     get_or-set_other bounds i k b 0 apart ∙ before k (omega arith)
+
+-- ---- the least of bounds
+
+pub least_none : (most : ℕ) → IsLeastOf [] most most
+least_none most = record {
+  lower = λ i h. absurd (omega (arith, h));
+  within = omega arith;
+  there = λ h. absurd (omega (arith, h));
+}
+
+-- one bound more is taken into the least one
+pub least_more : (bounds : List ℕ) (most k old new : ℕ) → k < length bounds → IsLeastOf (take k bounds) most old → new ≡ min old (get_or bounds k 0)
+    → IsLeastOf (take (k + 1) bounds) most new
+least_more bounds most k old new h is e =
+    subst (λ (l : List ℕ). IsLeastOf l most new) (sym (take_more bounds k 0 h)) (pushed (take k bounds) (get_or bounds k 0) is e)
+  where
+    pushed : (front : List ℕ) (last : ℕ) → IsLeastOf front most old → new ≡ min old last → IsLeastOf (front ++ last ∷ []) most new
+    pushed front last is e =
+        let at_last : get_or (front ++ last ∷ []) (length front) 0 ≡ last = get_or_push front last 0 (length front) refl in
+        let count : length (front ++ last ∷ []) ≡ length front + 1 = length_push front last in
+        record {
+          lower = λ i h. elim (cases_lt i (length front)) [
+            | inl inside ↦ omega (arith, e, is.lower i inside, get_or_append_left front (last ∷ []) 0 i inside)
+            | inr past ↦
+                let here : length front ≡ i = omega (arith, h, past, count) in
+                subst (λ (n : ℕ). new ≤ get_or (front ++ last ∷ []) n 0) here (omega (arith, e, at_last))
+          ];
+          within = omega (arith, e, is.within);
+          there = λ h. elim (cases_lt last old) [
+            | inl less ↦ (length front, omega (arith, count), omega (arith, e, at_last, less))
+            | inr other ↦
+                let at = is.there (omega (arith, e, h, other)) in
+                (at.0, omega (arith, at.1, count), omega (arith, e, other, at.2, get_or_append_left front (last ∷ []) 0 at.0 at.1))
+          ];
+        }
+
+pub least_same : (numbers others : List ℕ) (most limit least : ℕ) → numbers ≡ others → most ≡ limit → IsLeastOf numbers most least
+    → IsLeastOf others limit least
+least_same numbers others most limit least e f is =
+    subst (λ (n : ℕ). IsLeastOf others n least) f (subst (λ (l : List ℕ). IsLeastOf l most least) e is)

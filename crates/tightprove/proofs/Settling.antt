@@ -1,7 +1,7 @@
 -- Which of the first products go, settled one by one.
 use Rattle.std.proofs.Common.{◌≡◌, ◌≢◌, ◌⊎◌, inl, inr, ℕ, ◌+◌, ◌<◌, ◌≤◌, ◌==◌, ◌&&◌, ◌||◌, Bool, true, false, not, cond, List, [], ◌∷◌, ◌++◌, length, get_or, set, replicate, refl, sym, ap, ◌∙◌, subst, arith, MatchBool, Some, map}
 use Rattle.std.specs.Prelude.{nat_le}
-use Rattle.std.proofs.lemmas.Bool.{cases_lt, cases_eq, leb-true, le-leb, or_cases, true≢false, eq-eqb, ne_eqb}
+use Rattle.std.proofs.lemmas.Bool.{cases_lt, cases_eq, leb-true, leb-false, le-leb, or_cases, true≢false, eq-eqb, ne_eqb}
 use Rattle.std.proofs.lemmas.List.{append-nil, get_or_past, get_or-set_same, get_or-set_other, length-replicate, get_or-replicate}
 use Rattle.span_model.specs.Columns.{Columns, empty}
 use Rattle.span_model.specs.Span.{InSpan, Spans, SameSpan}
@@ -15,7 +15,7 @@ use Rattle.span_model.proofs.Members.{in_none}
 use Rattle.tightprove.specs.declared.gathered.Gathered.{Gathered}
 use Rattle.tightprove.specs.LeavingOut.{IsLeastLeftOut}
 use Rattle.tightprove.specs.Private.Gathered.{marks_of, beyond, place_at, rows_in, IsGatheredOf, HasSameRows, HasNoLeak}
-use Rattle.tightprove.specs.Private.Bounds.{class_count, AreBounds, IsCleanTo, AreStuck, IsSettled}
+use Rattle.tightprove.specs.Private.Bounds.{class_count, AreBounds, IsCleanTo, AreStuck, IsLeastOf, IsSettled}
 use Rattle.tightprove.proofs.Leaving.{out_at, length-left_out, gathered_same}
 
 -- each product of the set `less` that there is, is in the set
@@ -367,13 +367,18 @@ settled_all closed law products gathered m S bounds is settled count =
           (settled.needed k (omega arith) there);
     }
 
--- whether one product more goes, by the bounds that were raised
-pub goes_answer : AttackCarriesOver ℕ ℕ → (products : List (Product ℕ)) (S : ℕ → Bool) (gathered : Gathered) (m : ℕ) (bounds : List ℕ) (b : Bool)
-    → MatchBool b ((i : ℕ) × (i < length bounds) × (get_or bounds i 0 ≤ m)) ((i : ℕ) → i < length bounds → m < get_or bounds i 0)
+-- whether one product more goes, by the least of the bounds that were raised
+pub goes_answer : AttackCarriesOver ℕ ℕ → (products : List (Product ℕ)) (S : ℕ → Bool) (gathered : Gathered) (m most least : ℕ) (bounds : List ℕ) (b : Bool)
+    → nat_le least m ≡ b → IsLeastOf bounds most least → m < most
     → length bounds ≡ class_count gathered → AreStuck products S gathered m (m + 1) bounds → AreBounds products S gathered bounds
     → MatchBool b (HasAttack (left_out (beyond S (m + 1)) products)) (IsCleanTo products S gathered (m + 1))
-goes_answer law products S gathered m bounds true some count stuck are = let below = some.1 in stuck some.0 (omega arith) some.2
-goes_answer law products S gathered m bounds false above count stuck are = clean_above law products S gathered m bounds are (λ i h. above i (omega arith))
+goes_answer law products S gathered m most least bounds true e is high count stuck are =
+    let low = leb-true least m e in
+    let at = is.there (omega arith) in
+    stuck at.0 (omega (arith, at.1)) (omega (arith, at.2))
+goes_answer law products S gathered m most least bounds false e is high count stuck are =
+    let above = leb-false least m e in
+    clean_above law products S gathered m bounds are (λ i h. omega (arith, is.lower i (omega arith)))
 
 -- the same classes
 pub rows_itself : (gathered : Gathered) → HasSameRows gathered gathered

@@ -1,8 +1,8 @@
-ghost use Rattle.std.specs.Prelude.{◌≡◌, ◌<◌, ◌≤◌, ◌+◌, ◌⊎◌, ℕ, List, length, slice_index, IfOk, OnOk, MatchBool};
+ghost use Rattle.std.specs.Prelude.{◌≡◌, ◌<◌, ◌≤◌, ◌+◌, ℕ, List, length, IfOk, OnOk, MatchBool};
 ghost use Rattle.span_model.specs.Attack.{Product, HasAttack};
 ghost use Rattle.span_model.specs.Refresh.{left_out};
 ghost use Rattle.tightprove.specs.Private.Gathered.{marks_of, beyond, rows_in, HasNoLeak, IsGatheredOf, IsReady, HasSameRows};
-ghost use Rattle.tightprove.specs.Private.Bounds.{class_count, AreBounds, IsCleanTo, AreStuck, IsCleanBound, IsRestBound};
+ghost use Rattle.tightprove.specs.Private.Bounds.{class_count, AreBounds, IsCleanTo, AreStuck, IsLeastOf, IsCleanBound, IsRestBound};
 ghost use Rattle.tightprove.specs.Growth.{AreKnown};
 
 use crate::gathered::Gathered;
@@ -67,17 +67,15 @@ pub(crate) fn reach(
     Ok(low)
 }
 
-/// Whether a bound is at this number or below.
-pub(crate) fn is_any_at_most(bounds: &[usize], m: usize) -> bool
-    ensures { MatchBool result ((i : ℕ) × (i < length bounds.now) × (slice_index bounds.now i ≤ m))
-        ((i : ℕ) → i < length bounds.now → m < slice_index bounds.now i) }
+/// The least of the bounds, or `most` where none is below that.
+pub(crate) fn least_of(bounds: &[usize], most: usize) -> usize
+    ensures { IsLeastOf bounds.now most result }
 {
+    let mut least = most;
     for bound in bounds {
-        if *bound <= m {
-            return true;
-        }
+        least = least.min(*bound);
     }
-    false
+    least
 }
 
 // The bound of class i: where it is at `m` or below, and the class has no leak, it is raised to `all`.

@@ -25,6 +25,12 @@ abbrev pub AreStuck : List (Product ℕ) → (ℕ → Bool) → Gathered → (m 
 AreStuck products set gathered m b bounds =
     (i : ℕ) → i < class_count gathered → slice_index bounds i ≤ m → HasAttack (left_out (beyond set b) products)
 
+-- the least of the numbers, or `most` where none is below that
+pub record IsLeastOf (numbers : List ℕ) (most least : ℕ) : Type 0 where
+  pub lower : (i : ℕ) → i < length numbers → least ≤ slice_index numbers i
+  pub within : least ≤ most
+  pub there : least < most → (i : ℕ) × (i < length numbers) × (slice_index numbers i ≡ least)
+
 -- the bound as it was, and where it is at m or below there is a leak; or all products, among which the class has no leak
 abbrev pub IsCleanBound : Gathered → (i bound m all b : ℕ) → Type 0
 IsCleanBound gathered i bound m all b =

@@ -4,6 +4,7 @@ use Rattle.linear_view.specs.View.{products_of}
 use Rattle.tightprove.specs.Private.Gathered.{marks_of}
 use Rattle.tightprove.specs.Private.Bounds.{IsSettled}
 use Rattle.tightprove.proofs.Leaving.{rows_twice}
+use Rattle.tightprove.proofs.Raising.{least_same}
 use Rattle.tightprove.proofs.Settling.{settled_start, settled_all, goes_step, rows_itself}
 use Rattle.tightprove.proofs.leaving_out.least_left_out.Goals as goal
 
@@ -16,8 +17,15 @@ loop-m-init c =
       rows = rows_itself c.in_ok-gathered.gathered;
       count = ap length bounds ∙ length-replicate _ _ ∙ omega (arith, c.len.ensures);
       marks = ap length marks ∙ length-replicate _ _ ∙ omega (arith, c.len-2.ensures);
+      least = least_same c.deref.result.now c.in_ok-bounds.bounds.items c.len-3.result (length c.in_ok-set.set.items) c.least_of-least.result
+          c.deref.ensures.value (omega (arith, c.len-3.ensures, c.in_ok-set.set.ok.0)) c.least_of-least.ensures;
       settled = settled_start c.leaks_are_closed.ensures (products_of c.args.view.now) c.in_ok-gathered.gathered _ _ c.in_ok-set.set.items c.in_ok-bounds.bounds.items marks bounds;
     }
+
+pub must_go-requires-clause-least : goal.must_go-requires-clause-least
+must_go-requires-clause-least c =
+    least_same c.loop-m.bounds.items c.as_mut_slice.result.now (length c.loop-m.set.items) (length c.as_slice.result.now) c.loop-m.least
+    (sym c.as_mut_slice.ensures.value) (ap length (sym c.as_slice.ensures.value)) c.loop-m.invariant.least
 
 pub loop-m-preserved : goal.loop-m-preserved
 loop-m-preserved c =
@@ -33,6 +41,8 @@ loop-m-preserved c =
       rows = rows_twice first c.loop-m.gathered c.must_go.new.gathered before.rows c.in_ok-goes.ensures.rows;
       count = ap length written ∙ omega (arith, c.must_go.auto.bounds, c.as_mut_slice.ensures.len, before.count, c.in_ok-goes.ensures.rows.count);
       marks = length-set c.loop-m.set.items m c.in_ok-goes.goes ∙ before.marks ∙ sym (ap (λ v. length v.items) c.in_ok-goes.ensures.rows.places);
+      least = least_same c.must_go.new.bounds _ (length c.as_slice.result.now) _ c.must_go.new.least (sym written)
+          (ap length c.as_slice.ensures.value ∙ sym (length-set c.loop-m.set.items m c.in_ok-goes.goes)) c.in_ok-goes.ensures.least;
       settled = subst (λ (l : List ℕ). IsSettled (products_of c.args.view.now) first (m + 1) (marks_of (set c.loop-m.set.items m c.in_ok-goes.goes)) l) (sym written)
           (goes_step c.attack_carries_over.ensures (products_of c.args.view.now) first c.loop-m.gathered m c.loop-m.set.items c.as_slice.result.now c.loop-m.bounds.items
           c.as_mut_slice.result.now c.must_go.new.bounds c.in_ok-goes.goes before.rows c.in_ok-gathered.ensures.products c.as_slice.ensures.value c.as_mut_slice.ensures.value

@@ -77,7 +77,7 @@ below_more words v a c past there none =
 -- ---- the images of one class more
 
 -- what the numbers say at one list of rows more, where they say it before
-more_than : (P : ℕ → Type 0) (n : ℕ) → ((i : ℕ) → i < n → P i) → P n → (i : ℕ) → i < n + 1 → P i
+pub more_than : (P : ℕ → Type 0) (n : ℕ) → ((i : ℕ) → i < n → P i) → P n → (i : ℕ) → i < n + 1 → P i
 more_than P n before here i lt = elim (cases_lt i n) [
   | inl old ↦ before i old
   | inr now ↦ (let e : n ≡ i = omega arith in subst P e here)

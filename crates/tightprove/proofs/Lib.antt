@@ -2,6 +2,7 @@
 pub mod Alone
 pub mod Rests
 pub mod Calls
+pub mod Clearing
 pub mod Closures
 pub mod Gathering
 pub mod Imaging
@@ -14,3 +15,4 @@ pub mod Verdicts
 mod Leaving
 mod Settling
 mod Raising
+mod Opening

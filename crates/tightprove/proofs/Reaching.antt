@@ -10,9 +10,9 @@ use Rattle.std.proofs.lemmas.List.{get_or-map, length-map, get_or_default, get_o
 use Rattle.std.proofs.lemmas.List.Elements.{Contains-append_left, Contains-append_right, Contains-append_cases, Contains-get_or, Decides-contains, contains_decides}
 use Rattle.std.proofs.lemmas.Bool.Decides.{Decides-eqb, not_from_Decides}
 use Rattle.span_model.specs.Columns.{Columns, empty, ◌△◌}
-use Rattle.span_model.specs.Span.{InSpan}
+use Rattle.span_model.specs.Span.{InSpan, SameSpan}
 use Rattle.span_model.specs.Attack.{Product}
-use Rattle.span_model.specs.Closure.{Step, operand, co_operand, co_operands, IsChain}
+use Rattle.span_model.specs.Closure.{Step, operand, co_operand, co_operands, IsChain, IsClosed}
 use Rattle.span_model.proofs.Sets.{△_cancel_right, △-empty}
 use Rattle.span_model.proofs.Members.{in_none, in_cases, in_parts}
 use Rattle.tightprove.specs.Classes.{class_rows, IsPartner, IsClean}
@@ -213,7 +213,7 @@ along words Member products v there closed (step ∷ before) chain s in_s m in_m
     (closed step chain.0 of_v.0 of_v.2 in_r of_s.0 of_s.2 m in_m))
 
 -- of at most one row the members are the empty set and the row
-members_of : (rows : List (Columns ℕ)) (v : Columns ℕ) → length rows ≤ 1 → InSpan rows v → (v ≡ empty) ⊎ ((length rows ≡ 1) × (v ≡ first_row rows))
+pub members_of : (rows : List (Columns ℕ)) (v : Columns ℕ) → length rows ≤ 1 → InSpan rows v → (v ≡ empty) ⊎ ((length rows ≡ 1) × (v ≡ first_row rows))
 members_of [] v single there = inl (in_none v there)
 members_of (row ∷ []) v single there = elim (in_cases row [] v there) [
   | inl m ↦ inl (in_none v m)
@@ -221,37 +221,62 @@ members_of (row ∷ []) v single there = elim (in_cases row [] v there) [
 ]
 members_of (row ∷ other ∷ rows) v single there = absurd (omega arith)
 
--- a class is clean where the coset that is grown for its row does not come to 0
-pub apart_clean : (classes : List Class) (images : Images) (i : ℕ) (members : List ℕ) → AreImages classes images
-    → ((a b : ℕ) → IsPartner classes a b → b < length classes) → i < length classes → Contains members (image_at images i)
-    → ((m : ℕ) → Contains members m → TakesPartners classes images m members) → ¬ Contains members 0
-    → IsClean classes (class_rows classes i)
-apart_clean classes images i members (words, own) partners lt first takes apart products are v in_v leak =
+-- words are kept by the images of one list of rows where those of another are among them
+abbrev pub KeepsStep : (words : List ℕ) → (Member : ℕ → Type 0) → (operand co_operand : List (Columns ℕ)) → Type 0
+KeepsStep words Member operand co_operand =
+    (r : Columns ℕ) → InSpan operand r → Member (image words r) → (p : Columns ℕ) → InSpan co_operand p → (m : ℕ) → Member m
+    → Member (bit_xor m (image words p))
+
+-- a set is not closed where its image is among words that each step keeps, and that do not come to 0
+pub not_closed : (words : List ℕ) (Member : ℕ → Type 0) (products : List (Product ℕ)) (v : Columns ℕ) → Member (image words v)
+    → ((step : Step) → step.product < length products → KeepsStep words Member (operand products step) (co_operand products step))
+    → ¬ Member 0 → ¬ IsClosed products v
+not_closed words Member products v there kept apart leak =
+    apart (subst Member (xor_self (image words v)) (along words Member products v there kept leak.0 leak.1 v leak.2 (image words v) there))
+
+-- operands of at most one row, by the images of these rows
+pub step_kept : (words : List ℕ) (Member : ℕ → Type 0) (rows others operand co_operand : List (Columns ℕ)) → ¬ Member 0
+    → length rows ≤ 1 → length others ≤ 1 → SameSpan rows operand → SameSpan others co_operand
+    → (length rows ≡ 1 → Member (image words (first_row rows)) → (m : ℕ) → Member m → Member (bit_xor m (image words (first_row others))))
+    → KeepsStep words Member operand co_operand
+step_kept words Member rows others operand co_operand apart single also_single same also_same takes r in_r there p in_p m in_m =
+    elim (members_of rows r single ((same r).1 in_r)) [
+      | inl none ↦ absurd (apart (subst Member (ap (λ u. image words u) none ∙ image-empty words) there))
+      | inr row ↦ elim (members_of others p also_single ((also_same p).1 in_p)) [
+        | inl none ↦ subst Member (sym (ap (λ u. bit_xor m (image words u)) none ∙ ap (λ u. bit_xor m u) (image-empty words) ∙ xor_zero_r m)) in_m
+        | inr other ↦
+            subst (λ u. Member (bit_xor m u)) (sym (ap (λ u. image words u) other.1))
+            (takes row.0 (subst Member (ap (λ u. image words u) row.1) there) m in_m)
+      ]
+    ]
+
+-- a class is clean where the image of its row is among words that are kept by the images of partners of classes whose images are
+-- among them, and that do not come to 0
+pub apart_clean : (Member : ℕ → Type 0) (classes : List Class) (images : Images) (i : ℕ) → AreImages classes images
+    → ((a b : ℕ) → IsPartner classes a b → b < length classes) → i < length classes → Member (image_at images i)
+    → ((a b : ℕ) → length (class_rows classes a) ≡ 1 → Member (image_at images a) → IsPartner classes a b
+    → (m : ℕ) → Member m → Member (bit_xor m (image_at images b)))
+    → ¬ Member 0 → IsClean classes (class_rows classes i)
+apart_clean Member classes images i (words, own) partners lt first takes apart products are v in_v leak =
     elim (members_of (class_rows classes i) v (own.single i lt) in_v) [
       | inl none ↦ leak.0 none
-      | inr row ↦
-          let there : Contains members (image words v) = subst (λ u. Contains members u) (own.exact i lt ∙ sym (ap (λ u. image words u) row.1)) first in
-          let zero_in : Contains members (bit_xor (image words v) (image words v)) =
-          along words (λ m. Contains members m) products v there closed leak.1.0 leak.1.1 v leak.1.2 (image words v) there in
-          apart (subst (λ u. Contains members u) (xor_self (image words v)) zero_in)
+      | inr row ↦ not_closed words Member products v (subst Member (own.exact i lt ∙ sym (ap (λ u. image words u) row.1)) first) kept apart leak.1
     ]
   where
-    closed : (step : Step) → step.product < length products → (r : Columns ℕ) → InSpan (operand products step) r → Contains members (image words r)
-        → (p : Columns ℕ) → InSpan (co_operand products step) p → (m : ℕ) → Contains members m → Contains members (bit_xor m (image words p))
-    closed step within r in_r there p in_p m in_m =
+    kept : (step : Step) → step.product < length products → KeepsStep words Member (operand products step) (co_operand products step)
+    kept step within =
         let c = are.covered step within in
         let a_lt : c.0 < length classes = partner_of classes c.0 c.1 c.2 in
         let b_lt : c.1 < length classes = partners c.0 c.1 c.2 in
-        elim (members_of (class_rows classes c.0) r (own.single c.0 a_lt) ((c.3.operand_rows r).1 in_r)) [
-          | inl none ↦ absurd (apart (subst (λ u. Contains members u) (ap (λ u. image words u) none ∙ image-empty words) there))
-          | inr row ↦
-              let at_row : Contains members (image_at images c.0) =
-              subst (λ u. Contains members u) (ap (λ u. image words u) row.1 ∙ sym (own.exact c.0 a_lt)) there in
-              elim (members_of (class_rows classes c.1) p (own.single c.1 b_lt) ((c.3.co_operand_rows p).1 in_p)) [
-                | inl none ↦
-                    subst (λ u. Contains members u) (sym (ap (λ u. bit_xor m (image words u)) none ∙ ap (λ u. bit_xor m u) (image-empty words) ∙ xor_zero_r m)) in_m
-                | inr other ↦
-                    subst (λ u. Contains members (bit_xor m u)) (own.exact c.1 b_lt ∙ sym (ap (λ u. image words u) other.1))
-                    (takes (image_at images c.0) at_row c.0 c.1 row.0 refl c.2 m in_m)
-              ]
-        ]
+        step_kept words Member (class_rows classes c.0) (class_rows classes c.1) (operand products step) (co_operand products step) apart
+        (own.single c.0 a_lt) (own.single c.1 b_lt) c.3.operand_rows c.3.co_operand_rows
+        (λ one there m in_m. subst (λ u. Member (bit_xor m u)) (own.exact c.1 b_lt) (takes c.0 c.1 one (subst Member (sym (own.exact c.0 a_lt)) there) c.2 m in_m))
+
+-- a class is clean where the coset that is grown for its row does not come to 0
+pub coset_clean : (classes : List Class) (images : Images) (i : ℕ) (members : List ℕ) → AreImages classes images
+    → ((a b : ℕ) → IsPartner classes a b → b < length classes) → i < length classes → Contains members (image_at images i)
+    → ((m : ℕ) → Contains members m → TakesPartners classes images m members) → ¬ Contains members 0
+    → IsClean classes (class_rows classes i)
+coset_clean classes images i members are partners lt first takes apart =
+    apart_clean (λ m. Contains members m) classes images i are partners lt first
+    (λ a b one there partner. takes (image_at images a) there a b one refl partner) apart

@@ -1,3 +1,4 @@
 pub mod Images
+pub mod Affine
 pub mod Gathered
 pub mod Bounds

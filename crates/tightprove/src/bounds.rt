@@ -7,6 +7,7 @@ ghost use Rattle.tightprove.specs.Growth.{AreKnown};
 
 use crate::gathered::Gathered;
 use crate::known::Known;
+use crate::reaches::known_reach;
 use span_model::leaks_are_closed;
 use std::alloc::{AllocError, Global};
 
@@ -34,8 +35,8 @@ fn leaks_below(
     Ok(leaks)
 }
 
-/// Up to which bound a class has no leak, where it has none up to `low`, and there is an attack up to `high`.
-pub(crate) fn reach(
+// Up to which bound a class has no leak, where it has none up to `low`, and there is an attack up to `high`.
+fn reach_exactly(
     gathered: &mut Gathered,
     alloc: Global,
     set: &[bool],
@@ -65,6 +66,39 @@ pub(crate) fn reach(
         }
     }
     Ok(low)
+}
+
+/// The same, by images as far as these tell.
+pub(crate) fn reach(
+    gathered: &mut Gathered,
+    alloc: Global,
+    set: &[bool],
+    i: usize,
+    low: usize,
+    high: usize,
+) -> Result<usize, AllocError>
+    requires ready { IsReady gathered.old }
+    requires marks { length set.now ≡ length gathered.old.places.items }
+    requires i { i < class_count gathered.old }
+    requires some { low < high }
+    ensures ready { OnOk result (IsReady gathered.new) }
+    ensures rows { OnOk result (HasSameRows gathered.old gathered.new) }
+    ensures within { IfOk result (λ b. (low ≤ b) × (b < high)) }
+    ensures reach { IfOk result (λ b. (products : List (Product ℕ)) → IsGatheredOf products gathered.old
+        → HasNoLeak products (beyond (marks_of set.now) low) (rows_in gathered.old i)
+        → HasAttack (left_out (beyond (marks_of set.now) high) products)
+        → HasNoLeak products (beyond (marks_of set.now) b) (rows_in gathered.old i)
+        × HasAttack (left_out (beyond (marks_of set.now) (b + 1)) products)) }
+{
+    let told = known_reach(gathered, alloc, set, i, low, high)?;
+    if told + 1 == high {
+        return Ok(told);
+    }
+    if leaks_below(gathered, alloc, set, i, told + 1)? {
+        return Ok(told);
+    }
+    let reached = reach_exactly(gathered, alloc, set, i, told + 1, high)?;
+    Ok(reached)
 }
 
 /// The least of the bounds, or `most` where none is below that.
@@ -153,13 +187,7 @@ fn rest_bound(
     if bound > m {
         return Ok(bound);
     }
-    if leaks_below(gathered, alloc, set, i, m + 1)? {
-        return Ok(m);
-    }
-    if m + 1 == set.len() {
-        return Ok(m + 1);
-    }
-    let reached = reach(gathered, alloc, set, i, m + 1, set.len())?;
+    let reached = reach(gathered, alloc, set, i, m, set.len())?;
     Ok(reached)
 }
 

@@ -5,6 +5,7 @@ ghost use Rattle.tightprove.specs.Classes.{class_rows, IsGathered, IsClean, IsLe
 ghost use Rattle.tightprove.specs.Growth.{AreKnown};
 ghost use Rattle.tightprove.specs.Private.Images.{image_at, AreImages, IsCoset, IsKeptBy, Extends, TakesPartners};
 
+use crate::affine::is_apart_by_rests;
 use crate::classes::{Classes, span_of};
 use crate::images::Images;
 use crate::known::Known;
@@ -112,8 +113,28 @@ fn is_apart(
     Ok(false)
 }
 
+// The same by one coset or the other: where the first has too many members, the second may still be grown.
+fn is_apart_by_either(
+    alloc: Global,
+    images: &Images,
+    classes: &Classes,
+    i: usize,
+    members: &mut Vec<u64>,
+) -> Result<bool, AllocError>
+    requires classes { IsGathered classes.now }
+    requires images { AreImages classes.now.list.items images.now }
+    requires i { i < length classes.now.list.items }
+    ensures { IfOk result (λ apart. OnTrue apart (IsClean classes.now.list.items (class_rows classes.now.list.items i))) }
+{
+    if is_apart(images, classes, i, members)? {
+        return Ok(true);
+    }
+    is_apart_by_rests(alloc, images, classes, i)
+}
+
 // The same where there may be no images.
 fn is_known_apart(
+    alloc: Global,
     images: &Option<Images>,
     classes: &Classes,
     i: usize,
@@ -126,7 +147,7 @@ fn is_known_apart(
 {
     match images {
         Some(images) => {
-            let apart = is_apart(images, classes, i, members)?;
+            let apart = is_apart_by_either(alloc, images, classes, i, members)?;
             Ok(apart)
         }
         None => Ok(false),
@@ -150,7 +171,7 @@ pub(crate) fn leak_in(
     ensures answer { IfOk result (λ found. MatchOption found (IsClean classes.now.list.items (class_rows classes.now.list.items i))
         (λ leak. (length leak ≡ classes.now.columns) × IsLeakOf classes.now.list.items (set_of leak))) }
 {
-    if is_known_apart(images, classes, i, members)? {
+    if is_known_apart(alloc, images, classes, i, members)? {
         return Ok(None);
     }
     let rows = classes.list[i].rows.as_slice();

@@ -4,6 +4,7 @@
 //! over whole spans of candidates at a time.
 #![tactic(auto)]
 
+mod affine;
 mod apart;
 mod bounds;
 mod class;
@@ -15,6 +16,7 @@ mod images;
 mod known;
 mod leaving_out;
 mod pieces;
+mod reaches;
 mod searches;
 mod split;
 mod tasks;

@@ -1,21 +1,17 @@
-use Rattle.std.proofs.Common.{◌+◌, inl, inr, ℕ, Bool, List, sym, subst, arith}
-use Rattle.std.proofs.lemmas.Bool.{MatchBool-at_false}
-use Rattle.span_model.specs.Columns.{Columns}
-use Rattle.tightprove.specs.Private.Gathered.{marks_of, beyond, rows_in, HasNoLeak}
-use Rattle.tightprove.proofs.Leaving.{gathered_same}
+use Rattle.std.proofs.Common.{◌≡◌, ◌+◌, inl, inr, ℕ, Bool, subst, arith}
+use Rattle.std.proofs.lemmas.Bool.{cases_lt}
+use Rattle.span_model.specs.Attack.{HasAttack}
+use Rattle.span_model.specs.Refresh.{left_out}
+use Rattle.tightprove.specs.Private.Gathered.{marks_of, beyond}
 use Rattle.tightprove.proofs.bounds.rest_bound.Goals as goal
 
 pub returns-clause-bound : goal.returns-clause-bound
 returns-clause-bound c products is clean attack =
     let set : ℕ → Bool = marks_of c.args.set.now in
-    let after = c.leaks_below.new.gathered in
-    let rows = c.in_ok-leaks_below.ensures.rows in
-    let below : HasNoLeak products (beyond set (c.args.m + 1)) (rows_in c.args.gathered.now c.args.i) =
-    MatchBool-at_false _ _ c.if-branch.false (c.in_ok-leaks_below.ensures.answer products is) in
-    let found =
-    c.in_ok-reached.ensures.reach products (gathered_same products c.args.gathered.now after rows is)
-    (subst (λ (r : List (Columns ℕ)). HasNoLeak products (beyond set (c.args.m + 1)) r) (sym (rows.rows c.args.i)) below) (attack c.if-bound-m.false) in
-    inr (inl (
-      omega (arith, c.in_ok-reached.ensures.within),
-      subst (λ (r : List (Columns ℕ)). HasNoLeak products (beyond set c.in_ok-reached.reached) r) (rows.rows c.args.i) found.0,
-    ))
+    let found = c.in_ok-reached.ensures.reach products is clean (attack c.if-bound-m.false) in
+    elim (cases_lt c.args.m c.in_ok-reached.reached) [
+      | inl more ↦ inr (inl (more, found.0))
+      | inr most ↦
+          let same : c.in_ok-reached.reached ≡ c.args.m = omega (arith, c.in_ok-reached.ensures.within) in
+          inr (inr (same, subst (λ (b : ℕ). HasAttack (left_out (beyond set (b + 1)) products)) same found.1))
+    ]

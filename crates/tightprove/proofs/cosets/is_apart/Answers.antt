@@ -4,7 +4,7 @@ use Rattle.std.proofs.lemmas.List.{get_or_default}
 use Rattle.tightprove.specs.Private.Images.{image_at, TakesPartners}
 use Rattle.tightprove.specs.declared.class.Class.{Class}
 use Rattle.tightprove.proofs.Calls.{on_true, of_true}
-use Rattle.tightprove.proofs.Reaching.{apart_clean, at_same, contains_at, takes_more, test_misses, not_true}
+use Rattle.tightprove.proofs.Reaching.{coset_clean, at_same, contains_at, takes_more, test_misses, not_true}
 use Rattle.tightprove.proofs.cosets.is_apart.Goals as goal
 
 pub returns-then-k-len : goal.returns-then-k-len
@@ -12,7 +12,7 @@ returns-then-k-len c = on_true (not c.contains.result) _ (λ yes.
     let members : List ℕ = c.loop-k.members.items in
     let state = c.loop-k.invariant in
     let all : length c.loop-k.members.items ≤ c.loop-k.k = omega arith in
-    apart_clean c.args.classes.now.list.items c.args.images.now c.args.i members c.requires.images c.requires.classes.classes.partners c.requires.i
+    coset_clean c.args.classes.now.list.items c.args.images.now c.args.i members c.requires.images c.requires.classes.classes.partners c.requires.i
     (contains_at members 0 (image_at c.args.images.now c.args.i) state.some state.first)
     (λ m there. subst (λ x. TakesPartners c.args.classes.now.list.items c.args.images.now x c.loop-k.members.items)
     (at_same members there.0 m there.1 there.2) (state.taken there.0 (omega (arith, there.1))))

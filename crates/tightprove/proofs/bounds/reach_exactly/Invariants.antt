@@ -2,7 +2,7 @@ use Rattle.std.proofs.Common.{◌<◌, ◌≤◌, ◌-◌, List, ℕ}
 use Rattle.span_model.specs.Attack.{Product, HasAttack}
 use Rattle.span_model.specs.Refresh.{left_out}
 use Rattle.tightprove.specs.Private.Gathered.{marks_of, beyond, rows_in, HasNoLeak, IsGatheredOf, IsReady, HasSameRows}
-use Rattle.tightprove.proofs.bounds.reach.Given as goal
+use Rattle.tightprove.proofs.bounds.reach_exactly.Given as goal
 
 abbrev pub invariant-halve : goal.invariant-halve
 invariant-halve l =

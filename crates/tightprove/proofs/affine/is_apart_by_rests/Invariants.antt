@@ -1,0 +1,5 @@
+use Rattle.tightprove.specs.Private.Affine.{AreRests}
+use Rattle.tightprove.proofs.affine.is_apart_by_rests.Given as goal
+
+abbrev pub invariant-rounds : goal.invariant-rounds
+invariant-rounds l = AreRests l.classes.list.items l.rests.items

@@ -1,15 +1,15 @@
 // Rows of operands that were seen, so that equal ones are held once.
 ghost use Rattle.std.specs.Prelude.{◌≡◌, ◌≢◌, ℕ, length, IfOk, IfSome, MatchBool};
 
+use crate::shared_rows::SharedRows;
 use gf2_span::BitRow;
 use std::alloc::{AllocError, Global};
-use std::rc::Rc;
 use tor_edge::List;
 
 // The rows in lanes, equal ones in the same lane.
 #[derive(Drop)]
 pub(crate) struct Seen {
-    lanes: Vec<Vec<Rc<List<BitRow>, Global>>>,
+    lanes: Vec<Vec<SharedRows>>,
 }
 
 impl Seen {
@@ -27,40 +27,36 @@ impl Seen {
         &mut self,
         alloc: Global,
         rows: List<BitRow>,
-    ) -> Result<Rc<List<BitRow>, Global>, AllocError>
-        ensures { IfOk result (λ shared. shared.value ≡ rows) }
+    ) -> Result<SharedRows, AllocError>
+        ensures { IfOk result (λ shared. shared ≡ rows) }
     {
         let lane = lane_of(rows.as_slice(), self.lanes.len());
         if let Some(seen) = self.find(lane, rows.as_slice())? {
             return Ok(seen);
         }
-        let shared = Rc::new(alloc, rows)?;
+        let shared = SharedRows::new(alloc, rows)?;
         self.note(lane, &shared)?;
         Ok(shared)
     }
 
     // Equal rows of a lane.
-    fn find(
-        &self,
-        lane: usize,
-        rows: &[BitRow],
-    ) -> Result<Option<Rc<List<BitRow>, Global>>, AllocError>
-        ensures { IfOk result (λ found. IfSome found (λ seen. seen.value ≡ rows.now)) }
+    fn find(&self, lane: usize, rows: &[BitRow]) -> Result<Option<SharedRows>, AllocError>
+        ensures { IfOk result (λ found. IfSome found (λ seen. seen ≡ rows.now)) }
     {
         let Some(lane) = self.lanes.get(lane) else {
             return Ok(None);
         };
         for seen in lane {
-            if are_equal(seen.as_ref().as_slice(), rows) {
-                return Ok(Some(seen.clone()?));
+            if are_equal(seen.as_slice(), rows) {
+                return Ok(Some(seen.share()?));
             }
         }
         Ok(None)
     }
 
-    fn note(&mut self, lane: usize, rows: &Rc<List<BitRow>, Global>) -> Result<(), AllocError> {
+    fn note(&mut self, lane: usize, rows: &SharedRows) -> Result<(), AllocError> {
         if let Some(lane) = self.lanes.get_mut(lane) {
-            lane.push(rows.clone()?)?;
+            lane.push(rows.share()?)?;
         }
         Ok(())
     }

@@ -7,18 +7,18 @@ ghost use Rattle.linear_view.specs.View.{IsView, AreOperands, HasRows, operands_
 
 use crate::column::Column;
 use crate::operand::{Operand, Side};
+use crate::shared_rows::SharedRows;
 use gf2_span::BitRow;
 use indexmap::IndexSet;
 use std::alloc::{AllocError, Global};
 use std::marker::Model;
-use std::rc::Rc;
 use tor_edge::List;
 
 /// The rows of both operands of a product, which other operands may share.
 #[derive(Drop)]
 pub struct Pair {
-    left: Rc<List<BitRow>, Global>,
-    right: Rc<List<BitRow>, Global>,
+    left: SharedRows,
+    right: SharedRows,
 }
 
 /// The columns of a circuit, and the rows of the operands of its products.
@@ -33,7 +33,7 @@ impl Model for Pair {
 
     ghost Value = { Operands };
 
-    ghost view = { λ pair. record { left = pair.left.value; right = pair.right.value } };
+    ghost view = { λ pair. record { left = pair.left; right = pair.right } };
 }
 
 impl Model for View {
@@ -47,22 +47,22 @@ impl Model for View {
 }
 
 impl Pair {
-    pub(crate) fn new(left: Rc<List<BitRow>, Global>, right: Rc<List<BitRow>, Global>) -> Pair
-        ensures { result ≡ record { left = left.value; right = right.value } }
+    pub(crate) fn new(left: SharedRows, right: SharedRows) -> Pair
+        ensures { result ≡ record { left = left; right = right } }
     {
         Pair { left, right }
     }
 
-    pub(crate) fn left(&self) -> &List<BitRow>
+    pub(crate) fn left(&self) -> &SharedRows
         ensures { result.now ≡ self.now.left }
     {
-        self.left.as_ref()
+        &self.left
     }
 
-    pub(crate) fn right(&self) -> &List<BitRow>
+    pub(crate) fn right(&self) -> &SharedRows
         ensures { result.now ≡ self.now.right }
     {
-        self.right.as_ref()
+        &self.right
     }
 }
 
@@ -102,7 +102,7 @@ impl View {
         ensures value { option_copied result ≡ option_map (λ operands. operands.left) (slice_get self.now.products k) }
         ensures rows { IfSome result (λ rows. HasRows (length self.now.columns) rows.now) }
     {
-        Some(self.products.get(k as usize)?.left())
+        Some(self.products.get(k as usize)?.left().as_list())
     }
 
     /// The rows of the right operand of product `k`, that of bit 0 first.
@@ -110,7 +110,7 @@ impl View {
         ensures value { option_copied result ≡ option_map (λ operands. operands.right) (slice_get self.now.products k) }
         ensures rows { IfSome result (λ rows. HasRows (length self.now.columns) rows.now) }
     {
-        Some(self.products.get(k as usize)?.right())
+        Some(self.products.get(k as usize)?.right().as_list())
     }
 
     /// The rows of an operand, that of bit 0 first.
@@ -120,12 +120,21 @@ impl View {
         ensures sets { sets_of result.now ≡ operand_sets (products_of self.now) (step_of operand) }
         ensures columns { HasRows (length self.now.columns) result.now }
     {
+        self.shared_operand(operand).as_slice()
+    }
+
+    /// The rows of an operand, to be shared.
+    pub fn shared_operand(&self, operand: Operand) -> &SharedRows
+        requires { operand.product < length self.now.products }
+        ensures rows { result.now ≡ operand_rows self.now operand }
+        ensures sets { sets_of result.now ≡ operand_sets (products_of self.now) (step_of operand) }
+        ensures columns { HasRows (length self.now.columns) result.now }
+    {
         let operands = &self.products[operand.product as usize];
-        let rows = match operand.side {
+        match operand.side {
             Side::Left => operands.left(),
             Side::Right => operands.right(),
-        };
-        rows.as_slice()
+        }
     }
 
     /// The rows of the operand on the other side of the same product.
@@ -183,7 +192,10 @@ pub fn view_with(
 fn paired(alloc: Global, left: List<BitRow>, right: List<BitRow>) -> Result<Pair, AllocError>
     ensures { IfOk result (λ pair. pair ≡ record { left = left; right = right }) }
 {
-    Ok(Pair::new(Rc::new(alloc, left)?, Rc::new(alloc, right)?))
+    Ok(Pair::new(
+        SharedRows::new(alloc, left)?,
+        SharedRows::new(alloc, right)?,
+    ))
 }
 
 // The left and right operands in pairs.

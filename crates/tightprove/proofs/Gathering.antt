@@ -8,7 +8,7 @@ use Rattle.std.proofs.lemmas.List.Sums.{sum_by-set}
 use Rattle.std.proofs.lemmas.List.Folds.{sum_by-replicate}
 use Rattle.std.proofs.lemmas.List.{length-append, get_or_default, get_or_append_left, get_or-append_right, get_or-set_same, get_or-set_other, get_or_past, length-set, length-map, get_or-map, take_all, take_more, length-replicate, get_or-replicate}
 use Rattle.std.proofs.lemmas.List.Elements.{Contains-append_left, Contains-push, Contains-push_cases}
-use Rattle.std.proofs.lemmas.Option.{slice_get-get_or, get_or_from_slice_get, slice_get_within}
+use Rattle.std.proofs.lemmas.Option.{slice_get-get_or, get_or_from_slice_get}
 use Rattle.std.proofs.lemmas.Bool.{cases_lt, cases_eq}
 use mathlib.Core.Path.{fun_ext}
 use Rattle.span_model.specs.Columns.{Columns, empty, set_of, sets_of}
@@ -27,12 +27,6 @@ use Rattle.tightprove.proofs.Closures.{partner_of}
 pub all_wide : (columns : ℕ) (rows : List (List Bool)) → ((k : ℕ) → k < length rows → length (get_or rows k []) ≡ columns)
     → All (λ row. length row ≡ columns) rows
 all_wide columns rows wide k d lt = ap length (get_or_default rows k d [] lt) ∙ wide k lt
-
--- one more row of a list
-pub taken_more : {X : Type 0} (xs got : List X) (i : ℕ) (x : X) → got ≡ take i xs → slice_get xs i ≡ Some x → got ++ x ∷ [] ≡ take (i + 1) xs
-taken_more xs got i x is at =
-    let e : get_or xs i x ≡ x = get_or_from_slice_get xs i x x at in
-    ap (λ g. g ++ x ∷ []) is ∙ ap (λ y. take i xs ++ y ∷ []) (sym e) ∙ sym (take_more xs i x (slice_get_within xs i x at))
 
 -- ---- greatest columns
 

@@ -10,7 +10,7 @@ ghost use Rattle.std.specs.Bool.{OnTrue};
 
 use crate::class::Class;
 use gf2_span::{BitRow, Span, leads_are_kept};
-use linear_view::{Operand, Side, View};
+use linear_view::{Operand, SharedRows, Side, View};
 use std::alloc::{AllocError, Global};
 use tor_edge::List;
 
@@ -69,20 +69,6 @@ pub(crate) fn leads_of(alloc: Global, span: &Span) -> Result<Vec<u32>, AllocErro
         }
     }
     Ok(leads)
-}
-
-// The rows that the span keeps.
-fn rows_of(alloc: Global, span: &Span) -> Result<List<BitRow>, AllocError>
-    ensures { IfOk result (λ rows. rows ≡ span.now.rows) }
-{
-    let mut rows = List::new(alloc);
-    for k in 0..span.rank() {
-        match span.row(k) {
-            Some(row) => rows.push(row.copy(alloc)?)?,
-            None => {}
-        }
-    }
-    Ok(rows)
 }
 
 // Whether the rows span the same sets as the span.
@@ -159,18 +145,18 @@ fn add_class(
     alloc: Global,
     list: &mut Vec<Class>,
     by_lead: &mut Vec<List<usize>>,
-    span: &Span,
+    span: Span,
 ) -> Result<(), AllocError>
-    requires classes { AreClasses span.now.columns list.old.items }
+    requires classes { AreClasses span.columns list.old.items }
     requires by_lead { AreByLead list.old.items by_lead.old.items }
-    requires width { length by_lead.old.items ≡ span.now.columns }
-    ensures list { OnOk result (list.new.items ≡ list.old.items ++ record { rows = span.now.rows; partners = [] } ∷ []) }
-    ensures classes { OnOk result (AreClasses span.now.columns list.new.items) }
+    requires width { length by_lead.old.items ≡ span.columns }
+    ensures list { OnOk result (list.new.items ≡ list.old.items ++ record { rows = span.rows; partners = [] } ∷ []) }
+    ensures classes { OnOk result (AreClasses span.columns list.new.items) }
     ensures by_lead { OnOk result (AreByLead list.new.items by_lead.new.items) }
-    ensures width { length by_lead.new.items ≡ span.now.columns }
+    ensures width { length by_lead.new.items ≡ span.columns }
 {
-    let rows = rows_of(alloc, span)?;
-    add_to_lanes(&leads_of(alloc, span)?, list.len(), by_lead)?;
+    add_to_lanes(&leads_of(alloc, &span)?, list.len(), by_lead)?;
+    let rows = SharedRows::new(alloc, List::from_vec(span.into_rows()))?;
     list.push(Class {
         rows,
         partners: List::new(alloc),
@@ -202,7 +188,7 @@ pub(crate) fn place_span(
         Some(i) => Ok(i),
         None => {
             let i = list.len();
-            add_class(alloc, list, by_lead, &span)?;
+            add_class(alloc, list, by_lead, span)?;
             Ok(i)
         }
     }
@@ -233,14 +219,16 @@ fn find_row(list: &Vec<Class>, among: &[usize], row: &BitRow) -> Option<usize>
     None
 }
 
-// Adds a class of a row, with no partners yet.
+// Adds a class of a row, which is alone among the rows, with no partners yet.
 fn add_row(
     alloc: Global,
     list: &mut Vec<Class>,
     by_lead: &mut Vec<List<usize>>,
+    rows: &SharedRows,
     row: &BitRow,
     lead: u32,
 ) -> Result<(), AllocError>
+    requires alone { rows.now ≡ row.now ∷ [] }
     requires classes { AreClasses (length row.now) list.old.items }
     requires by_lead { AreByLead list.old.items by_lead.old.items }
     requires width { length by_lead.old.items ≡ length row.now }
@@ -250,11 +238,10 @@ fn add_row(
     ensures by_lead { OnOk result (AreByLead list.new.items by_lead.new.items) }
     ensures width { length by_lead.new.items ≡ length row.now }
 {
-    let mut rows = List::new(alloc);
-    rows.push(row.copy(alloc)?)?;
     add_to_lanes(&[lead], list.len(), by_lead)?;
+    let shared = rows.share()?;
     list.push(Class {
-        rows,
+        rows: shared,
         partners: List::new(alloc),
     })?;
     Ok(())
@@ -289,9 +276,11 @@ fn place_row(
     list: &mut Vec<Class>,
     by_lead: &mut Vec<List<usize>>,
     by_row: &mut Vec<List<usize>>,
+    rows: &SharedRows,
     row: &BitRow,
     lead: u32,
 ) -> Result<usize, AllocError>
+    requires alone { rows.now ≡ row.now ∷ [] }
     requires classes { AreClasses (length row.now) list.old.items }
     requires by_lead { AreByLead list.old.items by_lead.old.items }
     requires width { length by_lead.old.items ≡ length row.now }
@@ -309,7 +298,7 @@ fn place_row(
         return Ok(i);
     }
     let i = list.len();
-    add_row(alloc, list, by_lead, row, lead)?;
+    add_row(alloc, list, by_lead, rows, row, lead)?;
     note(by_row, lane, i)?;
     Ok(i)
 }
@@ -322,7 +311,7 @@ pub(crate) fn place(
     list: &mut Vec<Class>,
     by_lead: &mut Vec<List<usize>>,
     by_row: &mut Vec<List<usize>>,
-    rows: &[BitRow],
+    rows: &SharedRows,
 ) -> Result<usize, AllocError>
     requires classes { AreClasses columns list.old.items }
     requires by_lead { AreByLead list.old.items by_lead.old.items }
@@ -335,12 +324,12 @@ pub(crate) fn place(
     ensures by_lead { OnOk result (AreByLead list.new.items by_lead.new.items) }
     ensures width { length by_lead.new.items ≡ columns }
 {
-    if let [row] = rows {
+    if let [row] = rows.as_slice() {
         if let Some(lead) = row.last() {
-            return place_row(alloc, list, by_lead, by_row, row, lead);
+            return place_row(alloc, list, by_lead, by_row, rows, row, lead);
         }
     }
-    place_span(alloc, columns, list, by_lead, rows)
+    place_span(alloc, columns, list, by_lead, rows.as_slice())
 }
 
 /// Notes that operands of class i stand beside operands of class j.
@@ -361,8 +350,8 @@ fn add_product(
     list: &mut Vec<Class>,
     by_lead: &mut Vec<List<usize>>,
     by_row: &mut Vec<List<usize>>,
-    left: &[BitRow],
-    right: &[BitRow],
+    left: &SharedRows,
+    right: &SharedRows,
 ) -> Result<(), AllocError>
     requires classes { AreClasses columns list.old.items }
     requires by_lead { AreByLead list.old.items by_lead.old.items }
@@ -401,11 +390,11 @@ fn add_numbered(
     ensures by_lead { OnOk result (AreByLead list.new.items by_lead.new.items) }
     ensures width { length by_lead.new.items ≡ length view.now.columns }
 {
-    let left = view.operand(Operand {
+    let left = view.shared_operand(Operand {
         product: k,
         side: Side::Left,
     });
-    let right = view.operand(Operand {
+    let right = view.shared_operand(Operand {
         product: k,
         side: Side::Right,
     });
@@ -418,7 +407,7 @@ pub(crate) fn empty_lanes(alloc: Global, columns: u32) -> Result<Vec<List<usize>
     ensures width { IfOk result (λ lanes. length lanes.items ≡ columns) }
     ensures empty { IfOk result (λ lanes. (c : ℕ) → slice_index_or lanes.items c [] ≡ []) }
 {
-    let mut lanes = Vec::new(alloc);
+    let mut lanes = Vec::with_capacity(alloc, columns as usize)?;
     for _ in 0..columns {
         lanes.push(List::new(alloc))?;
     }

@@ -56,11 +56,11 @@ fn placed(
     ensures width { length by_lead.new.items ≡ length view.now.columns }
 {
     let columns = view.columns();
-    let left_rows = view.operand(Operand {
+    let left_rows = view.shared_operand(Operand {
         product: k,
         side: Side::Left,
     });
-    let right_rows = view.operand(Operand {
+    let right_rows = view.shared_operand(Operand {
         product: k,
         side: Side::Right,
     });

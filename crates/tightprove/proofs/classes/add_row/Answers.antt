@@ -8,10 +8,9 @@ use Rattle.tightprove.proofs.classes.add_row.Goals as goal
 pub returns-clause-classes : goal.returns-clause-classes
 returns-clause-classes c =
     let row = c.args.row.now in
-    let rows : c.push.new.self ≡ row ∷ [] =
-    c.in_ok-push.ensures.ok ∙ ap (λ (r : List (List Bool)). r ++ c.in_ok-copy.field-0 ∷ []) c.new-rows.ensures ∙ ap (λ (r : List Bool). r ∷ []) c.in_ok-copy.ensures in
-    let e : c.push-2.new.self.items ≡ c.args.list.now.items ++ class_of (row ∷ []) [] ∷ [] =
-    c.in_ok-push-2.ensures.items ∙ ap (λ (r : List (List Bool)). c.args.list.now.items ++ class_of r c.new.result ∷ []) rows
+    let rows : c.in_ok-shared.shared ≡ row ∷ [] = c.in_ok-shared.ensures ∙ c.requires.alone in
+    let e : c.push.new.self.items ≡ c.args.list.now.items ++ class_of (row ∷ []) [] ∷ [] =
+    c.in_ok-push.ensures.items ∙ ap (λ (r : List (List Bool)). c.args.list.now.items ++ class_of r c.new.result ∷ []) rows
     ∙ ap (λ (p : List ℕ). c.args.list.now.items ++ class_of (row ∷ []) p ∷ []) c.new.ensures in
     let P : List Class → Type 0 = λ l. AreClasses (length row) l in
     subst P (sym e) (class_added (length row) c.args.list.now.items (row ∷ []) c.requires.classes (single_wide row) (single_leads row c.args.lead c.requires.lead.1))
@@ -19,10 +18,9 @@ returns-clause-classes c =
 pub returns-clause-by_lead : goal.returns-clause-by_lead
 returns-clause-by_lead c =
     let row = c.args.row.now in
-    let rows : c.push.new.self ≡ row ∷ [] =
-    c.in_ok-push.ensures.ok ∙ ap (λ (r : List (List Bool)). r ++ c.in_ok-copy.field-0 ∷ []) c.new-rows.ensures ∙ ap (λ (r : List Bool). r ∷ []) c.in_ok-copy.ensures in
-    let e : c.push-2.new.self.items ≡ c.args.list.now.items ++ class_of (row ∷ []) [] ∷ [] =
-    c.in_ok-push-2.ensures.items ∙ ap (λ (r : List (List Bool)). c.args.list.now.items ++ class_of r c.new.result ∷ []) rows
+    let rows : c.in_ok-shared.shared ≡ row ∷ [] = c.in_ok-shared.ensures ∙ c.requires.alone in
+    let e : c.push.new.self.items ≡ c.args.list.now.items ++ class_of (row ∷ []) [] ∷ [] =
+    c.in_ok-push.ensures.items ∙ ap (λ (r : List (List Bool)). c.args.list.now.items ++ class_of r c.new.result ∷ []) rows
     ∙ ap (λ (p : List ℕ). c.args.list.now.items ++ class_of (row ∷ []) p ∷ []) c.new.ensures in
     let P : List Class → Type 0 = λ l. AreByLead l c.add_to_lanes.new.table.items in
     let R : ℕ → Type 0 = λ n. HasInLanes (c.args.lead ∷ []) n c.args.by_lead.now.items c.add_to_lanes.new.table.items in

@@ -6,6 +6,6 @@ use Rattle.tightprove.proofs.gathered.placed.Goals as goal
 
 pub returns-clause-place : goal.returns-clause-place
 returns-clause-place c =
-    placed_at c.place.new.list.items c.place-2.new.list.items c.in_ok-left.left c.in_ok-right.right (sets_of c.operand-left_rows.result.now) (sets_of c.operand-right_rows.result.now)
+    placed_at c.place.new.list.items c.place-2.new.list.items c.in_ok-left.left c.in_ok-right.right (sets_of c.shared_operand-left_rows.result.now) (sets_of c.shared_operand-right_rows.result.now)
     (product_at (products_of c.args.view.now) c.args.k) (kept_rows c.place.new.list.items c.place-2.new.list.items c.in_ok-right.ensures.kept)
-    c.in_ok-left.ensures.number c.in_ok-right.ensures.number c.operand-left_rows.ensures.sets c.operand-right_rows.ensures.sets
+    c.in_ok-left.ensures.number c.in_ok-right.ensures.number c.shared_operand-left_rows.ensures.sets c.shared_operand-right_rows.ensures.sets

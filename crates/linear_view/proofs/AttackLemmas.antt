@@ -43,7 +43,7 @@ present_right name xs ys h =
     or_true false = refl
 
 -- a set holds named columns only
-abbrev IsWithin : List Column → Columns Column → Type 0
+abbrev pub IsWithin : List Column → Columns Column → Type 0
 IsWithin names set = (column : Column) → list_any (same_column column) names ≡ false → set column ≡ false
 
 within_empty : (names : List Column) → IsWithin names empty
@@ -68,7 +68,7 @@ within_if names true v w hv hw = hv
 within_if names false v w hv hw = hw
 
 -- each row of a register
-abbrev AreWithin : List Column → Rows → Type 0
+abbrev pub AreWithin : List Column → Rows → Type 0
 AreWithin names rows = AllByRecursion (IsWithin names) rows
 
 within_at : (names : List Column) (rows : Rows) (b : ℕ) → AreWithin names rows → IsWithin names (get_or rows b empty)
@@ -159,7 +159,8 @@ within_after names w p f rs (g ∷ gs) rows own =
     ))
     (λ name present. own name (present_right name (gate_columns w p f g) (equation_columns w p1 f1 gs) present))
 
-within_core : (core : Circuit) → AllByRecursion (AreWithin (core_columns core)) (core_rows core)
+-- the rows of a core hold its columns only
+pub within_core : (core : Circuit) → AllByRecursion (AreWithin (core_columns core)) (core_rows core)
 within_core core =
     let w = core.width in
     let names = core_columns core in
@@ -173,10 +174,11 @@ within_core core =
     (λ name present. present_right name own rest present)
 
 -- both operands of a product hold named columns only
-abbrev IsOver : List Column → Product Column → Type 0
+abbrev pub IsOver : List Column → Product Column → Type 0
 IsOver names product = AreWithin names product.left × AreWithin names product.right
 
-within_products : (names : List Column) (rs : RegisterRows) (gs : List Gate) → AllByRecursion (AreWithin names) rs → AllByRecursion (IsOver names) (flat_map (gate_product rs) gs)
+-- so do the rows of the operands of products
+pub within_products : (names : List Column) (rs : RegisterRows) (gs : List Gate) → AllByRecursion (AreWithin names) rs → AllByRecursion (IsOver names) (flat_map (gate_product rs) gs)
 within_products names rs [] rows = tt
 within_products names rs (gate.Const c ∷ gs) rows = within_products names rs gs rows
 within_products names rs (gate.Xor a b ∷ gs) rows = within_products names rs gs rows
@@ -191,7 +193,7 @@ within_products names rs (gate.Refresh a ∷ gs) rows = within_products names rs
 -- ---- names and numbers
 
 -- the number of a name
-abbrev place_of : List Column → Column → Option ℕ
+abbrev pub place_of : List Column → Column → Option ℕ
 place_of [] column = None
 place_of (name ∷ names) column = if same_column column name then Some 0 else option_map suc (place_of names column)
 
@@ -241,10 +243,11 @@ names_of_rows names [] within = refl
 names_of_rows names (row ∷ rows) within = cons_same (by_name names row within.0) (names_of_rows names rows within.1)
 
 -- the products over the numbers of the names
-abbrev numbered_products : List Column → List (Product Column) → List (Product ℕ)
+abbrev pub numbered_products : List Column → List (Product Column) → List (Product ℕ)
 numbered_products names products = map view.product_of (map (operands_over names) products)
 
-numbers_of_products : (names : List Column) (products : List (Product Column)) → renamed (slice_get names) products ≡ numbered_products names products
+-- the products by the numbers of their columns
+pub numbers_of_products : (names : List Column) (products : List (Product Column)) → renamed (slice_get names) products ≡ numbered_products names products
 numbers_of_products names [] = refl
 numbers_of_products names (product ∷ products) =
     let both : (l r : List (Columns ℕ)) → List (Product ℕ) = λ l r. record { left = l; right = r } ∷ renamed (slice_get names) products in
@@ -252,7 +255,8 @@ numbers_of_products names (product ∷ products) =
     ∙ ap (λ (r : List (Columns ℕ)). both (sets_of (rows_over names product.left)) r) (numbers_of_rows names product.right)
     ∙ ap (λ (l : List (Product ℕ)). view.product_of (operands_over names product) ∷ l) (numbers_of_products names products)
 
-names_of_products : (names : List Column) (products : List (Product Column)) → AllByRecursion (IsOver names) products
+-- from the numbers of columns back to their names
+pub names_of_products : (names : List Column) (products : List (Product Column)) → AllByRecursion (IsOver names) products
     → renamed (place_of names) (numbered_products names products) ≡ products
 names_of_products names [] within = refl
 names_of_products names (product ∷ products) within =

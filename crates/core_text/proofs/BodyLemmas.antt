@@ -1,11 +1,11 @@
 -- What a body says, line by line, as it is read.
-use Rattle.std.proofs.Common.{◌≡◌, ℕ, suc, ◌+◌, true, false, List, [], ◌∷◌, ◌++◌, map, Option, None, Some, Result, Ok, Err, refl, sym, ap, ◌∙◌, subst, append_assoc, append-nil, add-one}
+use Rattle.std.proofs.Common.{◌≡◌, ℕ, suc, ◌+◌, true, false, List, [], ◌∷◌, ◌++◌, map, Option, None, Some, Result, Ok, Err, refl, sym, ap, ◌∙◌, subst, append_assoc, append-nil, add-one, MatchResult}
 use Rattle.std.specs.Result.{IsErrAnd}
 use Rattle.std.proofs.lemmas.Bool.{cond-true, cond-false}
 use Rattle.core_text.specs.declared.fault.CoreFault.{CoreFault}
 use Rattle.core_text.specs.declared.fault.CoreFault.TheVariants as fault
 use Rattle.core_text.specs.Forms.{is_outputs}
-use Rattle.core_text.specs.Parts.{kept, kept_gate, kept_body, answer_kept, after_equations, rest_of, IsAnswer, IsMemory}
+use Rattle.core_text.specs.Parts.{kept, kept_gate, kept_body, answer_kept, after_equations, rest_of, TakesEquation, AreOutputsDue, IsAnswer, IsMemory}
 use Rattle.core_text.specs.Reading.{Body, with_equation, with_outputs, body_from, equation_line, outputs_line}
 use Rattle.text_lines.specs.Lines.{LinesLeft, first_words}
 use Rattle.usuba0.specs.declared.circuit.Gate.{Gate}
@@ -64,25 +64,27 @@ one_more w n k words lines gs gate h e =
     ∙ more_of gs gate (equation_line w n k words) (body_from w (suc n) (k + 1) lines) e
     ∙ ap (λ (m : ℕ). after_equations (gs ++ gate ∷ []) (answer_kept kept_body (body_from w m (k + 1) lines))) (sym (add-one n))
 
-wrong_of : (gs : List Gate) (wrong : CoreFault) (said : Result Gate CoreFault) (later : Result Body CoreFault) → Err wrong ≡ answer_kept kept_gate said
-    → after_equations gs (answer_kept kept_body (with_equation said later)) ≡ Err wrong
-wrong_of gs wrong (Err found) later e = ap (λ (f : CoreFault). Err f) (sym (err_is wrong found e))
-wrong_of gs wrong (Ok said) later e = absurd (no_ok (kept_gate said) wrong (sym e))
+wrong_of : (wrong : CoreFault) (said : Result Gate CoreFault) (later : Result Body CoreFault) → Err wrong ≡ answer_kept kept_gate said
+    → answer_kept kept_body (with_equation said later) ≡ Err wrong
+wrong_of wrong (Err found) later e = ap (λ (f : CoreFault). Err f) (sym (err_is wrong found e))
+wrong_of wrong (Ok said) later e = absurd (no_ok (kept_gate said) wrong (sym e))
 
 -- an equation with a fault
-pub wrong_equation : (w n k : ℕ) (words : List (List ℕ)) (lines : List (Option (List (List ℕ)))) (gs : List Gate) (wrong : CoreFault) → is_outputs words ≡ false
+pub wrong_equation : (w n k : ℕ) (words : List (List ℕ)) (lines : List (Option (List (List ℕ)))) (wrong : CoreFault) → is_outputs words ≡ false
     → Err wrong ≡ answer_kept kept_gate (equation_line w n k words)
-    → after_equations gs (answer_kept kept_body (body_from w n k (Some words ∷ lines))) ≡ Err wrong
-wrong_equation w n k words lines gs wrong h e =
-    ap (λ (r : Result Body CoreFault). after_equations gs (answer_kept kept_body r)) (equation_at w n k words lines h)
-    ∙ wrong_of gs wrong (equation_line w n k words) (body_from w (suc n) (k + 1) lines) e
+    → answer_kept kept_body (body_from w n k (Some words ∷ lines)) ≡ Err wrong
+wrong_equation w n k words lines wrong h e =
+    ap (answer_kept kept_body) (equation_at w n k words lines h)
+    ∙ wrong_of wrong (equation_line w n k words) (body_from w (suc n) (k + 1) lines) e
+
+none_of : (w n k : ℕ) (lines : List (Option (List (List ℕ)))) → first_words lines ≡ None → answer_kept kept_body (body_from w n k lines) ≡ Err (fault.Syntax k)
+none_of w n k [] h = refl
+none_of w n k (None ∷ lines) h = refl
+none_of w n k (Some words ∷ lines) h = absurd (no_words words h)
 
 -- no line is left
-pub no_line : (w n k : ℕ) (lines : List (Option (List (List ℕ)))) (gs : List Gate) → first_words lines ≡ None
-    → after_equations gs (answer_kept kept_body (body_from w n k lines)) ≡ Err (fault.Syntax k)
-no_line w n k [] gs h = refl
-no_line w n k (None ∷ lines) gs h = refl
-no_line w n k (Some words ∷ lines) gs h = absurd (no_words words h)
+pub no_line : (w n : ℕ) (left : LinesLeft) → first_words left.lines ≡ None → answer_kept kept_body (rest_of w n left) ≡ Err (fault.Syntax left.number)
+no_line w n left h = none_of w n left.number left.lines h
 
 pub outputs_at : (w n k : ℕ) (words : List (List ℕ)) (lines : List (Option (List (List ℕ)))) → is_outputs words ≡ true
     → body_from w n k (Some words ∷ lines) ≡ with_outputs (outputs_line n k words) (k + 1) lines
@@ -138,12 +140,42 @@ nothing_before (Err wrong) = refl
 nothing_before (Ok body) = refl
 
 -- nothing was read yet
-pub at_start : (w n : ℕ) (left : LinesLeft) (k : ℕ) (words : List (List ℕ)) (lines : List (Option (List (List ℕ)))) → left.lines ≡ Some words ∷ lines → k ≡ left.number
-    → answer_kept kept_body (rest_of w n left) ≡ after_equations [] (answer_kept kept_body (body_from w n k (Some words ∷ lines)))
-at_start w n left k words lines e h =
-    ap (λ (ls : List (Option (List (List ℕ)))). answer_kept kept_body (body_from w n left.number ls)) e
-    ∙ ap (λ (m : ℕ). answer_kept kept_body (body_from w n m (Some words ∷ lines))) (sym h)
-    ∙ sym (nothing_before (answer_kept kept_body (body_from w n k (Some words ∷ lines))))
+pub at_start : (w n m : ℕ) (left : LinesLeft) (gs : List Gate) → m ≡ n → gs ≡ []
+    → answer_kept kept_body (rest_of w n left) ≡ after_equations gs (answer_kept kept_body (rest_of w m left))
+at_start w n m left gs e h =
+    sym (nothing_before (answer_kept kept_body (rest_of w n left)))
+    ∙ ap (λ (k : ℕ). after_equations [] (answer_kept kept_body (rest_of w k left))) (sym e)
+    ∙ ap (λ (xs : List Gate). after_equations xs (answer_kept kept_body (rest_of w m left))) (sym h)
+
+-- an equation was taken
+pub one_taken : (w n : ℕ) (said : Gate) (before after : LinesLeft) (gs hs : List Gate) → TakesEquation w n said before after → hs ≡ gs ++ said ∷ []
+    → after_equations gs (answer_kept kept_body (rest_of w n before)) ≡ after_equations hs (answer_kept kept_body (rest_of w (n + 1) after))
+one_taken w n said before after gs hs t e =
+    ap (λ (ls : List (Option (List (List ℕ)))). after_equations gs (answer_kept kept_body (body_from w n before.number ls))) t.1
+    ∙ one_more w n before.number t.0 after.lines gs said t.3 t.4
+    ∙ ap (λ (k : ℕ). after_equations (gs ++ said ∷ []) (answer_kept kept_body (body_from w (n + 1) k after.lines))) (sym t.2)
+    ∙ ap (λ (es : List Gate). after_equations es (answer_kept kept_body (rest_of w (n + 1) after))) (sym e)
+
+-- a line is due
+pub line_due : (w n k : ℕ) (left : LinesLeft) (words : List (List ℕ)) (lines : List (Option (List (List ℕ)))) → left.lines ≡ Some words ∷ lines → k ≡ left.number
+    → rest_of w n left ≡ body_from w n k (Some words ∷ lines)
+line_due w n k left words lines e h = ap (body_from w n left.number) e ∙ ap (λ (m : ℕ). body_from w n m (Some words ∷ lines)) (sym h)
+
+same_words : (a b : List (List ℕ)) (xs ys : List (Option (List (List ℕ)))) → Some a ∷ xs ≡ Some b ∷ ys → a ≡ b
+same_words a b xs ys e = cc
+
+-- the line of the outputs is due, and was taken
+pub at_outputs : (w n k : ℕ) (left due : LinesLeft) (words : List (List ℕ)) (lines : List (Option (List (List ℕ)))) (gs : List Gate) (wanted : Result Body CoreFault)
+    → (due ≡ left) × AreOutputsDue left → due.lines ≡ Some words ∷ lines → k ≡ due.number → wanted ≡ after_equations gs (answer_kept kept_body (rest_of w n left))
+    → (is_outputs words ≡ true) × (wanted ≡ after_equations gs (answer_kept kept_body (body_from w n k (Some words ∷ lines))))
+at_outputs w n k left due words lines gs wanted is e h so_far =
+    let outputs = is.1 in
+    let first : Some words ∷ lines ≡ Some outputs.0 ∷ outputs.1 = sym e ∙ ap (λ (l : LinesLeft). l.lines) is.0 ∙ outputs.2 in (
+      ap is_outputs (same_words words outputs.0 lines outputs.1 first) ∙ outputs.3,
+      so_far
+          ∙ ap (λ (l : LinesLeft). after_equations gs (answer_kept kept_body (rest_of w n l))) (sym is.0)
+          ∙ ap (λ (r : Result Body CoreFault). after_equations gs (answer_kept kept_body r)) (line_due w n k due words lines e h),
+    )
 
 -- an answer that hands on the fault that is wanted
 pub tells : {X Y : Type 0} (shown : X → Y) (said : Result X CoreFault) (wrong : CoreFault) (wanted : Result Y CoreFault) → IsErrAnd said (λ x. x ≡ wrong) → wanted ≡ Err wrong
@@ -182,10 +214,8 @@ tells_outputs {V} shown items said outputs fault.Limit w n k words lines gs want
     subst (λ (o : Result V CoreFault). IsAnswer items o (answer_kept (map kept) (outputs_line n k words))) was told in
     tells shown said fault.Limit wanted is (so_far ∙ wrong_outputs w n k words lines gs fault.Limit h e)
 
--- the next line is due
-pub next_due : (w n k j : ℕ) (words : List (List ℕ)) (lines rest : List (Option (List (List ℕ)))) (gs hs : List Gate) → hs ≡ gs → lines ≡ Some words ∷ rest → j ≡ k
-    → after_equations gs (answer_kept kept_body (body_from w n k lines)) ≡ after_equations hs (answer_kept kept_body (body_from w n j (Some words ∷ rest)))
-next_due w n k j words lines rest gs hs g l e =
-    ap (λ (es : List Gate). after_equations es (answer_kept kept_body (body_from w n k lines))) (sym g)
-    ∙ ap (λ (ls : List (Option (List (List ℕ)))). after_equations hs (answer_kept kept_body (body_from w n k ls))) l
-    ∙ ap (λ (m : ℕ). after_equations hs (answer_kept kept_body (body_from w n m (Some words ∷ rest)))) (sym e)
+-- what is told of a fault that an answer hands on
+pub fault_handed_on : {X : Type 0} (said : Result X CoreFault) (wrong : CoreFault) (P : X → Type 0) (Q : CoreFault → Type 0) → IsErrAnd said (λ x. x ≡ wrong) → Q wrong
+    → MatchResult said P Q
+fault_handed_on (Ok x) wrong P Q is told = absurd is
+fault_handed_on (Err found) wrong P Q is told = subst Q (sym is) told

@@ -26,7 +26,7 @@ use Rattle.usuba0.specs.CoreText.{outputs_text, equations_text, head_text, core_
 kept_same : (a : Reg) (n : ℕ) → a.0 < n → n ≤ 2 ^ 32 → kept a ≡ a
 kept_same a n below small = rw (lt-ltb a.0 (2 ^ 32) (omega arith)) refl
 
-gate_same : (w n : ℕ) (g : Gate) → n ≤ 2 ^ 32 → IsEquation w n g → kept_gate g ≡ g
+pub gate_same : (w n : ℕ) (g : Gate) → n ≤ 2 ^ 32 → IsEquation w n g → kept_gate g ≡ g
 gate_same w n (gate.Const c) small h = refl
 gate_same w n (gate.Xor a b) small h =
     ap (λ (x : Reg). gate.Xor x (kept b)) (kept_same a n h.0 small) ∙ ap (λ (x : Reg). gate.Xor a x) (kept_same b n h.1 small)

@@ -6,3 +6,4 @@ pub mod LawLemmas
 pub mod CoreLemmas
 pub mod RoundLemmas
 pub mod FaultLemmas
+pub mod PlainLemmas

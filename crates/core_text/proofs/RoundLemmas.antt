@@ -45,7 +45,7 @@ gate_passes w n (gate.Refresh a) h = lt-ltb a.0 n h
 
 -- words that are written have no blanks and no LFs
 
-equation_plain : (w n : ℕ) (g : Gate) → w ≤ 64 → 2 ^ w ≤ 2 ^ 64 → n < 2 ^ 64 → IsEquation w n g → are_plain_words (equation_words n g) ≡ true
+pub equation_plain : (w n : ℕ) (g : Gate) → w ≤ 64 → 2 ^ w ≤ 2 ^ 64 → n < 2 ^ 64 → IsEquation w n g → are_plain_words (equation_words n g) ≡ true
 equation_plain w n (gate.Const c) width bits small h = rw (is_plain_decimal n small, is_plain_decimal c (omega (arith, h))) refl
 equation_plain w n (gate.Xor a b) width bits small h = rw (is_plain_decimal n small, is_plain_decimal a.0 (omega (arith, h.0)), is_plain_decimal b.0 (omega (arith, h.1))) refl
 equation_plain w n (gate.Not a) width bits small h = rw (is_plain_decimal n small, is_plain_decimal a.0 (omega (arith, h))) refl
@@ -63,7 +63,7 @@ equation_form_back w n g width bits small h =
     ∙ ap (λ (r : Reg). with_gate r (gate_form (gate_words g))) (register_back (record { 0 = n }) small)
     ∙ ap (λ (o : Option Gate). with_gate (record { 0 = n }) o) (gate_back w n g width bits (omega (arith, small)) h)
 
-equation_back : (w n k : ℕ) (g : Gate) → w ≤ 64 → n < 2 ^ 64 → IsEquation w n g → equation_line w n k (equation_words n g) ≡ Ok g
+pub equation_back : (w n k : ℕ) (g : Gate) → w ≤ 64 → n < 2 ^ 64 → IsEquation w n g → equation_line w n k (equation_words n g) ≡ Ok g
 equation_back w n k g width small h =
     let q : Equation = record { register = record { 0 = n }; gate = g } in
     ap gate_of

@@ -1,9 +1,10 @@
 -- What the functions answer of which each reads a part of the text. A register of 2^32 or more is kept as 2^32 - 1: a core with so many
 -- registers is past its limits.
-use Rattle.std.specs.Prelude.{◌≡◌, ℕ, ◌-◌, ◌^◌, nat_lt, if◌then◌else◌, List, ◌++◌, map, Result, Ok, Err}
+use Rattle.std.specs.Prelude.{◌≡◌, ℕ, ◌+◌, ◌-◌, ◌^◌, nat_lt, if◌then◌else◌, true, false, List, ◌∷◌, ◌++◌, map, Option, Some, Result, Ok, Err}
 use Rattle.core_text.specs.declared.fault.CoreFault.{CoreFault}
 use Rattle.core_text.specs.declared.fault.CoreFault.TheVariants as fault
-use Rattle.core_text.specs.Reading.{Body, body_from}
+use Rattle.core_text.specs.Forms.{is_outputs}
+use Rattle.core_text.specs.Reading.{Body, body_from, equation_line}
 use Rattle.text_lines.specs.Lines.{LinesLeft}
 use Rattle.usuba0.specs.declared.circuit.Gate.{Gate}
 use Rattle.usuba0.specs.declared.circuit.Gate.TheVariants as gate
@@ -42,6 +43,17 @@ after_equations equations (Ok body) = Ok (record { equations = equations ++ body
 -- what the lines that are left say as a body
 abbrev pub rest_of : ℕ → ℕ → LinesLeft → Result Body CoreFault
 rest_of w n left = body_from w n left.number left.lines
+
+-- the first of the lines is the equation of register n, kept as this gate, and the lines after it are left
+abbrev pub TakesEquation : ℕ → ℕ → Gate → LinesLeft → LinesLeft → Type 0
+TakesEquation w n said before after =
+    (words : List (List ℕ)) × (before.lines ≡ Some words ∷ after.lines) × (after.number ≡ before.number + 1) × (is_outputs words ≡ false)
+    × (Ok said ≡ answer_kept kept_gate (equation_line w n before.number words))
+
+-- the first of the lines is that of the outputs
+abbrev pub AreOutputsDue : LinesLeft → Type 0
+AreOutputsDue left =
+    (words : List (List ℕ)) × (others : List (Option (List (List ℕ)))) × (left.lines ≡ Some words ∷ others) × (is_outputs words ≡ true)
 
 -- the answer holds what is wanted, or memory was wanting
 abbrev pub IsAnswer : {X Y : Type 0} → (X → Y) → Result X CoreFault → Result Y CoreFault → Type 0

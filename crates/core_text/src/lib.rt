@@ -4,6 +4,7 @@
 mod fault;
 mod line;
 mod operand;
+mod plain;
 mod read;
 mod right_side;
 

@@ -1,5 +1,5 @@
-ghost use Rattle.std.specs.Prelude.{◌≡◌, ◌+◌, ◌<◌, ◌≤◌, ◌^◌, ◌∷◌, Some, Ok, Err, true, ℕ, List, length, MatchResult, IfOk};
-ghost use Rattle.core_text.specs.Parts.{rest_of, IsAnswer, answer_kept, kept_body};
+ghost use Rattle.std.specs.Prelude.{◌≡◌, ◌+◌, ◌<◌, ◌≤◌, ◌^◌, ◌∷◌, Some, Ok, Err, true, ℕ, List, length, MatchOption, MatchResult, IfOk};
+ghost use Rattle.core_text.specs.Parts.{rest_of, AreOutputsDue, IsAnswer, TakesEquation, answer_kept, kept_body};
 ghost use Rattle.core_text.specs.Ranges as ranges;
 ghost use Rattle.core_text.specs.Reading as reading;
 ghost use Rattle.text_lines.specs.Lines.{first_words};
@@ -8,6 +8,7 @@ ghost use Rattle.usuba0.specs.CoreText.{core_text};
 
 use crate::fault::CoreFault;
 use crate::line::{equation_line, inputs_line, is_outputs, outputs_line, width_line};
+use crate::plain::plain_line;
 use std::alloc::Global;
 use text_lines::{Lines, Words};
 use usuba0::{Core, Gate, MAX_COLUMNS, Reg};
@@ -71,17 +72,37 @@ fn read_body(
 {
     let mut equations = Vec::new(alloc);
     let mut next = u64::from(inputs);
-    let (mut line, mut words) = due_line(lines)?;
-    while !is_outputs(words.copy()) {
-        equations.push(equation_line(width, next, line, words)?)?;
+    while let Some(gate) = next_equation(width, next, lines)? {
+        equations.push(gate)?;
         next += 1;
-        (line, words) = due_line(lines)?;
     }
+    let (line, words) = due_line(lines)?;
     let outputs = outputs_line(alloc, next, line, words)?;
     if !lines.is_over() {
         return Err(CoreFault::Syntax(lines.number()));
     }
     Ok(Read { equations, outputs })
+}
+
+// Takes the equation that makes register `next`, where the outputs are not due.
+fn next_equation(width: u32, next: u64, lines: &mut Lines<'_>) -> Result<Option<Gate>, CoreFault>
+    requires { width ≤ 64 }
+    ensures { MatchResult result
+        (λ said. MatchOption said ((lines.new ≡ lines.old) × AreOutputsDue lines.old)
+        (λ gate. TakesEquation width next gate lines.old lines.new))
+        (λ fault. answer_kept kept_body (rest_of width next lines.old) ≡ Err fault) }
+{
+    if let Some(gate) = plain_line(next, lines) {
+        return Ok(Some(gate));
+    }
+    let mut later = lines.copy();
+    let (line, words) = due_line(&mut later)?;
+    if is_outputs(words.copy()) {
+        return Ok(None);
+    }
+    let gate = equation_line(width, next, line, words)?;
+    *lines = later;
+    Ok(Some(gate))
 }
 
 // The core, if it is within the limits. The registers of one with more inputs than columns may have been cut.

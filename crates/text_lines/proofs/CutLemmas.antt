@@ -1,9 +1,9 @@
 -- How bytes are cut at the first that equals a given one.
-use Rattle.std.proofs.Common.{◌≡◌, ℕ, ◌+◌, ◌-◌, ◌<◌, ◌≤◌, ◌⊎◌, Bool, true, false, eqb, ltb, not, List, [], ◌∷◌, length, take, drop, Option, None, Some, refl, ap, sym, ◌∙◌, inl, inr, arith}
+use Rattle.std.proofs.Common.{◌≡◌, ℕ, ◌+◌, ◌-◌, ◌<◌, ◌≤◌, Bool, eqb, ltb, List, [], ◌∷◌, length, take, drop, None, Some, refl, ap, sym, ◌∙◌, inl, inr, arith}
 use Rattle.std.specs.List.{slice_split, onto_first, position, position_or_len}
 use Rattle.std.proofs.lemmas.Bool.{cases_Bool, ltb-true, ltb-false}
 use Rattle.std.proofs.lemmas.List.{take_all, length-drop}
-use Rattle.std.proofs.lemmas.List.Splits.{slice_split-cons_yes, slice_split-cons_no, slice_split_first}
+use Rattle.std.proofs.lemmas.List.Splits.{slice_split-cons_no, slice_split_first}
 
 -- where no element passes the list is one part
 none_passes : (p : ℕ → Bool) (xs : List ℕ) → length xs ≤ position_or_len p xs → slice_split p xs ≡ xs ∷ []

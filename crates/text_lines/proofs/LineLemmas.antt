@@ -4,7 +4,7 @@ use Rattle.std.specs.List.{slice_split, onto_first}
 use Rattle.std.proofs.lemmas.Bool.{cases_Bool, both_ways, ne_eqb}
 use Rattle.std.proofs.lemmas.List.Splits.{slice_split-cons_yes, slice_split-cons_no}
 use Rattle.text_lines.specs.Words.{words_of}
-use Rattle.text_lines.specs.Lines.{last_line, lines_of_parts, lines_of, first_words}
+use Rattle.text_lines.specs.Lines.{lines_of_parts, lines_of, first_words}
 
 -- a list has a first part
 pub some_part : (p : ℕ → Bool) (xs : List ℕ) → (part : List ℕ) × (parts : List (List ℕ)) × (slice_split p xs ≡ part ∷ parts)

@@ -28,10 +28,33 @@ impl<'a> Lines<'a> {
         requires { length text.now ≤ 2 ^ 31 }
         ensures { result ≡ record { lines = lines_of text.now; number = 1 } }
     {
+        Lines::from_line(1, text)
+    }
+
+    /// The lines of a text of which the first has this number.
+    pub fn from_line(number: u64, text: &'a [u8]) -> Lines<'a>
+        requires { number + length text.now ≤ 2 ^ 63 }
+        ensures { result ≡ record { lines = lines_of text.now; number = number } }
+    {
+        Lines { rest: text, number }
+    }
+
+    /// The same lines once more.
+    pub fn copy(&self) -> Lines<'a>
+        ensures { result ≡ self.now }
+    {
         Lines {
-            rest: text,
-            number: 1,
+            rest: self.rest,
+            number: self.number,
         }
+    }
+
+    /// The text of the lines.
+    pub fn text(&self) -> &'a [u8]
+        ensures lines { lines_of result.now ≡ self.now.lines }
+        ensures room { self.now.number + length result.now ≤ 2 ^ 63 }
+    {
+        self.rest
     }
 
     /// The number of the next line, also where there is none.

@@ -1,15 +1,11 @@
-use Rattle.std.proofs.Common.{◌≡◌, ◌+◌, ◌≤◌, ◌^◌, ◌∷◌, Some, length}
+use Rattle.std.proofs.Common.{◌≡◌, ◌+◌, ◌≤◌, ◌^◌, length}
 use Rattle.core_text.specs.Parts.{rest_of, answer_kept, kept_body, after_equations}
-use Rattle.core_text.specs.Reading.{body_from}
 use Rattle.core_text.proofs.read.read_body.Given as goal
 
 abbrev pub invariant-loop-equations : goal.invariant-loop-equations
 invariant-loop-equations l =
     record {
-      so_far :
-          answer_kept kept_body (rest_of l.width l.inputs l.fn.lines)
-          ≡ after_equations l.equations.items (answer_kept kept_body (body_from l.width l.next l.line (Some l.words ∷ l.lines.lines)));
-      number : l.lines.number ≡ l.line + 1;
+      so_far : answer_kept kept_body (rest_of l.width l.inputs l.fn.lines) ≡ after_equations l.equations.items (answer_kept kept_body (rest_of l.width l.next l.lines));
       room : l.next + length l.lines.lines ≤ 2 ^ 33;
     }
 

@@ -1,4 +1,4 @@
-use Rattle.std.proofs.Common.{◌≡◌, ◌^◌, ◌<◌, subst, ℕ, sym, arith}
+use Rattle.std.proofs.Common.{◌≡◌, ◌^◌, ◌<◌, arith}
 use Rattle.text_lines.specs.Numbers.{value_of}
 use Rattle.text_lines.proofs.NumberLemmas.{value_step, too_big_after, value_at_end}
 use Rattle.text_lines.proofs.number.number_value.Goals as goal

@@ -1,0 +1,33 @@
+-- Lines that are read in one pass over their bytes.
+use Rattle.std.proofs.Common.{◌≡◌, ℕ, ◌+◌, ◌^◌, ◌<◌, ◌≤◌, List, ◌∷◌, ◌++◌, Option, Some, Ok, refl, sym, ap, ◌∙◌, arith, codes}
+use Rattle.std.proofs.Math.Pow.{pow_mono}
+use Rattle.core_text.specs.Parts.{kept_gate, answer_kept, TakesEquation}
+use Rattle.core_text.specs.Reading.{equation_line}
+use Rattle.core_text.proofs.CoreLemmas.{gate_same}
+use Rattle.core_text.proofs.FormLemmas.{gate_words, equation_words}
+use Rattle.core_text.proofs.RoundLemmas.{equation_plain, equation_back}
+use Rattle.core_text.proofs.WordLemmas.{equation_line_is}
+use Rattle.text_lines.specs.Lines.{LinesLeft, lines_of}
+use Rattle.text_lines.proofs.WrittenLemmas.{lines_of_line}
+use Rattle.usuba0.specs.declared.circuit.Gate.{Gate}
+use Rattle.usuba0.specs.Circuit.{IsEquation}
+use Rattle.usuba0.specs.CoreText.{register_text, equation_text}
+
+-- the lines after an equation
+pub taken : (w n : ℕ) (g : Gate) (bytes rest : List ℕ) (before after : LinesLeft) → w ≤ 64 → n < 2 ^ 32 → IsEquation w n g → lines_of bytes ≡ before.lines
+    → bytes ≡ equation_text n g ++ rest → after ≡ record { lines = lines_of rest; number = before.number + 1 } → TakesEquation w n g before after
+taken w n g bytes rest before after width small h l e a =
+    let words : List (List ℕ) = equation_words n g in
+    let line : lines_of (equation_text n g ++ rest) ≡ Some words ∷ lines_of rest =
+    ap (λ (t : List ℕ). lines_of (t ++ rest)) (sym (equation_line_is n g))
+    ∙ lines_of_line (register_text n) (codes "=" ∷ gate_words g) rest (equation_plain w n g width (pow_mono width) (omega (arith, small)) h) in
+    let said : Ok g ≡ answer_kept kept_gate (equation_line w n before.number words) =
+    sym
+    (ap (answer_kept kept_gate) (equation_back w n before.number g width (omega (arith, small)) h)
+    ∙ ap (λ (x : Gate). Ok x) (gate_same w n g (omega (arith, small)) h)) in (
+      words,
+      sym l ∙ ap lines_of e ∙ line ∙ ap (λ (ls : List (Option (List (List ℕ)))). Some words ∷ ls) (sym (ap (λ (x : LinesLeft). x.lines) a)),
+      ap (λ (x : LinesLeft). x.number) a,
+      refl,
+      said,
+    )

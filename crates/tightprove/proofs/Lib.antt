@@ -16,3 +16,4 @@ mod Leaving
 mod Settling
 mod Raising
 mod Opening
+mod Following

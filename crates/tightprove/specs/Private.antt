@@ -1,4 +1,5 @@
 pub mod Images
 pub mod Affine
+pub mod Chains
 pub mod Gathered
 pub mod Bounds

@@ -1,9 +1,11 @@
-ghost use Rattle.std.specs.Prelude.{◌≡◌, ◌<◌, ℕ, length, map, slice_index, IfOk, Contains};
+ghost use Rattle.std.specs.Prelude.{◌≡◌, ◌<◌, ℕ, length, map, slice_index, IfOk, OnOk, Contains};
 ghost use Rattle.std.specs.Bool.{OnTrue};
 ghost use Rattle.tightprove.specs.Classes.{class_rows, IsGathered, IsClean};
 ghost use Rattle.tightprove.specs.Private.Images.{AreImages};
 ghost use Rattle.tightprove.specs.Private.Affine.{cleared_by, AreMapped, HasEnded};
+ghost use Rattle.tightprove.specs.Private.Chains.{AreClassSteps, NotesPartners};
 
+use crate::chains::ClassStep;
 use crate::classes::Classes;
 use crate::images::Images;
 use std::alloc::{AllocError, Global};
@@ -43,41 +45,68 @@ pub(crate) fn take_rest(rests: &mut [u64], rest: u64)
     clear_all(rests, rest);
 }
 
-// Makes the rests of the partners 0.
-fn take_partners(rests: &mut [u64], partners: &[usize])
+// Makes the rests of the partners of class `from` 0, and notes the steps to those that had another.
+fn take_partners(
+    rests: &mut [u64],
+    from: usize,
+    partners: &[usize],
+    steps: &mut Vec<ClassStep>,
+) -> Result<(), AllocError>
     requires { (j : ℕ) → Contains partners.now j → j < length rests.old }
-    ensures { AreMapped rests.old rests.new }
+    ensures mapped { OnOk result (AreMapped rests.old rests.new) }
+    ensures steps { OnOk result (NotesPartners from partners.now steps.old.items steps.new.items) }
 {
     for j in partners {
         let rest = rests[*j];
-        take_rest(rests, rest);
+        if rest != 0 {
+            take_rest(rests, rest);
+            steps.push(ClassStep { from, to: *j })?;
+        }
     }
+    Ok(())
 }
 
-// Makes the rests of the partners of class k 0, where it has the rest of class i.
-fn take_class(rests: &mut [u64], classes: &Classes, i: usize, k: usize)
+// Takes the steps from class k, where it has the rest of class i.
+fn take_class(
+    rests: &mut [u64],
+    classes: &Classes,
+    i: usize,
+    k: usize,
+    steps: &mut Vec<ClassStep>,
+) -> Result<(), AllocError>
     requires classes { IsGathered classes.now }
     requires count { length rests.old ≡ length classes.now.list.items }
     requires i { i < length classes.now.list.items }
     requires k { k < length classes.now.list.items }
-    ensures { AreMapped rests.old rests.new }
+    requires steps { AreClassSteps classes.now.list.items steps.old.items }
+    ensures mapped { OnOk result (AreMapped rests.old rests.new) }
+    ensures steps { OnOk result (AreClassSteps classes.now.list.items steps.new.items) }
 {
     if rests[k] != rests[i] {
-        return;
+        return Ok(());
     }
-    take_partners(rests, classes.list[k].partners.as_slice());
+    take_partners(rests, k, classes.list[k].partners.as_slice(), steps)?;
+    Ok(())
 }
 
-// Makes the rests of the partners of each class 0 that has the rest of class i.
-fn take_all(rests: &mut [u64], classes: &Classes, i: usize)
+// Takes the steps from each class that has the rest of class i.
+fn take_all(
+    rests: &mut [u64],
+    classes: &Classes,
+    i: usize,
+    steps: &mut Vec<ClassStep>,
+) -> Result<(), AllocError>
     requires classes { IsGathered classes.now }
     requires count { length rests.old ≡ length classes.now.list.items }
     requires i { i < length classes.now.list.items }
-    ensures { AreMapped rests.old rests.new }
+    requires steps { AreClassSteps classes.now.list.items steps.old.items }
+    ensures mapped { OnOk result (AreMapped rests.old rests.new) }
+    ensures steps { OnOk result (AreClassSteps classes.now.list.items steps.new.items) }
 {
     for k in 0..rests.len() {
-        take_class(rests, classes, i, k);
+        take_class(rests, classes, i, k, steps)?;
     }
+    Ok(())
 }
 
 // Whether the partners have the rest 0.
@@ -123,16 +152,20 @@ fn have_ended(rests: &[u64], classes: &Classes, i: usize) -> bool
 }
 
 /// Whether the affine coset that is grown for the row of class i does not come to 0. Then the row is the leak of no attack.
+/// The steps by which it grows are noted.
 pub(crate) fn is_apart_by_rests(
     alloc: Global,
     images: &Images,
     classes: &Classes,
     i: usize,
+    steps: &mut Vec<ClassStep>,
 ) -> Result<bool, AllocError>
     requires classes { IsGathered classes.now }
     requires images { AreImages classes.now.list.items images.now }
     requires i { i < length classes.now.list.items }
-    ensures { IfOk result (λ apart. OnTrue apart (IsClean classes.now.list.items (class_rows classes.now.list.items i))) }
+    requires steps { AreClassSteps classes.now.list.items steps.old.items }
+    ensures steps { OnOk result (AreClassSteps classes.now.list.items steps.new.items) }
+    ensures apart { IfOk result (λ apart. OnTrue apart (IsClean classes.now.list.items (class_rows classes.now.list.items i))) }
 {
     let mut rests = Vec::new(alloc);
     rests.extend_from_slice(images.by_class.as_slice())?;
@@ -143,7 +176,7 @@ pub(crate) fn is_apart_by_rests(
         if have_ended(rests.as_slice(), classes, i) {
             return Ok(true);
         }
-        take_all(rests.as_mut_slice(), classes, i);
+        take_all(rests.as_mut_slice(), classes, i, steps)?;
     }
     Ok(false)
 }

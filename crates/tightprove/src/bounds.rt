@@ -5,6 +5,7 @@ ghost use Rattle.tightprove.specs.Private.Gathered.{marks_of, beyond, rows_in, H
 ghost use Rattle.tightprove.specs.Private.Bounds.{class_count, AreBounds, IsCleanTo, AreStuck, IsLeastOf, IsCleanBound, IsRestBound};
 ghost use Rattle.tightprove.specs.Growth.{AreKnown};
 
+use crate::chains::leaks_by;
 use crate::gathered::Gathered;
 use crate::known::Known;
 use crate::reaches::known_reach;
@@ -90,8 +91,12 @@ pub(crate) fn reach(
         → HasNoLeak products (beyond (marks_of set.now) b) (rows_in gathered.old i)
         × HasAttack (left_out (beyond (marks_of set.now) (b + 1)) products)) }
 {
-    let told = known_reach(gathered, alloc, set, i, low, high)?;
+    let mut taken = Vec::new(alloc);
+    let told = known_reach(gathered, alloc, set, i, low, high, &mut taken)?;
     if told + 1 == high {
+        return Ok(told);
+    }
+    if leaks_by(gathered, alloc, set, told + 1, i, taken.as_slice())? {
         return Ok(told);
     }
     if leaks_below(gathered, alloc, set, i, told + 1)? {

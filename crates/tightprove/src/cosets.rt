@@ -3,9 +3,11 @@ ghost use Rattle.std.specs.Bool.{OnTrue};
 ghost use Rattle.span_model.specs.Columns.{set_of};
 ghost use Rattle.tightprove.specs.Classes.{class_rows, IsGathered, IsClean, IsLeakOf};
 ghost use Rattle.tightprove.specs.Growth.{AreKnown};
+ghost use Rattle.tightprove.specs.Private.Chains.{AreClassSteps};
 ghost use Rattle.tightprove.specs.Private.Images.{image_at, AreImages, IsCoset, IsKeptBy, Extends, TakesPartners};
 
 use crate::affine::is_apart_by_rests;
+use crate::chains::{ClassStep, leak_by};
 use crate::classes::{Classes, span_of};
 use crate::images::Images;
 use crate::known::Known;
@@ -113,23 +115,27 @@ fn is_apart(
     Ok(false)
 }
 
-// The same by one coset or the other: where the first has too many members, the second may still be grown.
+// The same by one coset or the other: where the first has too many members, the second may still be grown, by steps that are
+// noted.
 fn is_apart_by_either(
     alloc: Global,
     images: &Images,
     classes: &Classes,
     i: usize,
     members: &mut Vec<u64>,
+    steps: &mut Vec<ClassStep>,
 ) -> Result<bool, AllocError>
     requires classes { IsGathered classes.now }
     requires images { AreImages classes.now.list.items images.now }
     requires i { i < length classes.now.list.items }
-    ensures { IfOk result (λ apart. OnTrue apart (IsClean classes.now.list.items (class_rows classes.now.list.items i))) }
+    requires steps { AreClassSteps classes.now.list.items steps.old.items }
+    ensures steps { OnOk result (AreClassSteps classes.now.list.items steps.new.items) }
+    ensures apart { IfOk result (λ apart. OnTrue apart (IsClean classes.now.list.items (class_rows classes.now.list.items i))) }
 {
     if is_apart(images, classes, i, members)? {
         return Ok(true);
     }
-    is_apart_by_rests(alloc, images, classes, i)
+    is_apart_by_rests(alloc, images, classes, i, steps)
 }
 
 // The same where there may be no images.
@@ -139,15 +145,18 @@ fn is_known_apart(
     classes: &Classes,
     i: usize,
     members: &mut Vec<u64>,
+    steps: &mut Vec<ClassStep>,
 ) -> Result<bool, AllocError>
     requires classes { IsGathered classes.now }
     requires images { IfSome images.now (λ images. AreImages classes.now.list.items images) }
     requires i { i < length classes.now.list.items }
-    ensures { IfOk result (λ apart. OnTrue apart (IsClean classes.now.list.items (class_rows classes.now.list.items i))) }
+    requires steps { AreClassSteps classes.now.list.items steps.old.items }
+    ensures steps { OnOk result (AreClassSteps classes.now.list.items steps.new.items) }
+    ensures apart { IfOk result (λ apart. OnTrue apart (IsClean classes.now.list.items (class_rows classes.now.list.items i))) }
 {
     match images {
         Some(images) => {
-            let apart = is_apart_by_either(alloc, images, classes, i, members)?;
+            let apart = is_apart_by_either(alloc, images, classes, i, members, steps)?;
             Ok(apart)
         }
         None => Ok(false),
@@ -171,8 +180,13 @@ pub(crate) fn leak_in(
     ensures answer { IfOk result (λ found. MatchOption found (IsClean classes.now.list.items (class_rows classes.now.list.items i))
         (λ leak. (length leak ≡ classes.now.columns) × IsLeakOf classes.now.list.items (set_of leak))) }
 {
-    if is_known_apart(alloc, images, classes, i, members)? {
+    let mut steps = Vec::new(alloc);
+    if is_known_apart(alloc, images, classes, i, members, &mut steps)? {
         return Ok(None);
+    }
+    let followed = leak_by(alloc, classes, i, steps.as_slice())?;
+    if followed.is_some() {
+        return Ok(followed);
     }
     let rows = classes.list[i].rows.as_slice();
     let candidates = span_of(alloc, classes.columns, rows)?;

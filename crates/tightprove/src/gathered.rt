@@ -121,8 +121,8 @@ fn pair(list: &mut Vec<Class>, place: Place) -> Result<(), AllocError>
     Ok(())
 }
 
-// Whether product k is left out, where those of the set and those from number `bound` on are.
-fn is_left_out(set: &[bool], bound: usize, k: usize) -> bool
+/// Whether product k is left out, where those of the set and those from number `bound` on are.
+pub(crate) fn is_left_out(set: &[bool], bound: usize, k: usize) -> bool
     requires { k < length set.now }
     ensures { result ≡ beyond (marks_of set.now) bound k }
 {

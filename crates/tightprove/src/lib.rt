@@ -7,6 +7,7 @@
 mod affine;
 mod apart;
 mod bounds;
+mod chains;
 mod class;
 mod classes;
 mod cosets;

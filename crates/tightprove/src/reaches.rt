@@ -44,7 +44,7 @@ fn first_open(gathered: &Gathered, rests: &[u64], set: &[bool], i: usize) -> usi
 }
 
 // Up to which bound below `high` the rests tell that class i has no leak, where it has none up to `low`. The products are
-// taken in turn.
+// taken in turn, and their numbers noted.
 fn reach_of_rests(
     gathered: &Gathered,
     rests: &mut [u64],
@@ -52,35 +52,38 @@ fn reach_of_rests(
     i: usize,
     low: usize,
     high: usize,
-) -> usize
+    taken: &mut Vec<usize>,
+) -> Result<usize, AllocError>
     requires ready { IsReady gathered.now }
     requires rests { AreRests gathered.now.classes.list.items rests.old }
     requires marks { length set.now ≡ length gathered.now.places.items }
     requires i { i < class_count gathered.now }
     requires some { low < high }
-    ensures within { (low ≤ result) × (result < high) }
-    ensures clean { (products : List (Product ℕ)) → IsGatheredOf products gathered.now
+    ensures within { IfOk result (λ b. (low ≤ b) × (b < high)) }
+    ensures clean { IfOk result (λ b. (products : List (Product ℕ)) → IsGatheredOf products gathered.now
         → HasNoLeak products (beyond (marks_of set.now) low) (rows_in gathered.now i)
-        → HasNoLeak products (beyond (marks_of set.now) result) (rows_in gathered.now i) }
+        → HasNoLeak products (beyond (marks_of set.now) b) (rows_in gathered.now i)) }
 {
     leaks_are_closed::<u32>();
     let mut told = low;
     'rounds: for _ in 0..MOST_ROUNDS {
         if rests[i] == 0 {
-            return told;
+            return Ok(told);
         }
         let k = first_open(gathered, rests, set, i);
         told = told.max(k.min(high - 1));
         if k >= set.len() {
-            return told;
+            return Ok(told);
         }
         let rest = open_rest(rests, i, gathered.places[k]);
         take_rest(rests, rest);
+        taken.push(k)?;
     }
-    told
+    Ok(told)
 }
 
-/// Up to which bound below `high` images tell that class i has no leak, where it has none up to `low`.
+/// Up to which bound below `high` images tell that class i has no leak, where it has none up to `low`. The numbers of the
+/// products that give the images of a leak are noted.
 pub(crate) fn known_reach(
     gathered: &Gathered,
     alloc: Global,
@@ -88,6 +91,7 @@ pub(crate) fn known_reach(
     i: usize,
     low: usize,
     high: usize,
+    taken: &mut Vec<usize>,
 ) -> Result<usize, AllocError>
     requires ready { IsReady gathered.now }
     requires marks { length set.now ≡ length gathered.now.places.items }
@@ -103,5 +107,6 @@ pub(crate) fn known_reach(
     };
     let mut rests = Vec::new(alloc);
     rests.extend_from_slice(images.by_class.as_slice())?;
-    Ok(reach_of_rests(gathered, rests.as_mut_slice(), set, i, low, high))
+    let reached = reach_of_rests(gathered, rests.as_mut_slice(), set, i, low, high, taken)?;
+    Ok(reached)
 }

@@ -4,6 +4,7 @@ use Rattle.span_model.specs.Columns.{Columns}
 use Rattle.span_model.specs.Attack.{HasAttack}
 use Rattle.span_model.specs.Refresh.{left_out}
 use Rattle.tightprove.specs.Private.Gathered.{marks_of, beyond, rows_in, HasNoLeak}
+use Rattle.tightprove.proofs.Calls.{of_true}
 use Rattle.tightprove.proofs.Leaving.{rows_twice, gathered_same}
 use Rattle.tightprove.proofs.bounds.reach.Goals as goal
 
@@ -17,7 +18,13 @@ returns-then-told-high-clause-reach c products is clean attack = (
 pub returns-then-branch-clause-reach : goal.returns-then-branch-clause-reach
 returns-then-branch-clause-reach c products is clean attack = (
   c.in_ok-told.ensures.clean products is clean,
-  MatchBool-at_true _ _ c.if-branch.true (c.in_ok-leaks_below.ensures.answer products is),
+  of_true c.in_ok-leaks_by.field-0 _ c.if-branch.true c.in_ok-leaks_by.ensures products is,
+)
+
+pub returns-then-branch-2-clause-reach : goal.returns-then-branch-2-clause-reach
+returns-then-branch-2-clause-reach c products is clean attack = (
+  c.in_ok-told.ensures.clean products is clean,
+  MatchBool-at_true _ _ c.if-branch-2.true (c.in_ok-leaks_below.ensures.answer products is),
 )
 
 pub returns-clause-reach : goal.returns-clause-reach
@@ -27,7 +34,7 @@ returns-clause-reach c products is clean attack =
     let after = c.leaks_below.new.gathered in
     let rows = c.in_ok-leaks_below.ensures.rows in
     let below : HasNoLeak products (beyond set (c.in_ok-told.told + 1)) (rows_in c.args.gathered.now c.args.i) =
-    MatchBool-at_false _ _ c.if-branch.false (c.in_ok-leaks_below.ensures.answer products is) in
+    MatchBool-at_false _ _ c.if-branch-2.false (c.in_ok-leaks_below.ensures.answer products is) in
     let found =
     c.in_ok-reached.ensures.reach products (gathered_same products c.args.gathered.now after rows is)
     (subst (λ (r : List (Columns ℕ)). HasNoLeak products (beyond set (told + 1)) r) (sym (rows.rows c.args.i)) below) attack in (

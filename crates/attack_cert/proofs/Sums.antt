@@ -1,6 +1,7 @@
 -- A row that spans with a span what is left of a leak.
-use Rattle.std.proofs.Common.{◌≡◌, ◌<◌, ◌++◌, ℕ, Bool, true, false, not, List, [], ◌∷◌, length, get_or, sym, ap, ◌∙◌, subst, arith}
+use Rattle.std.proofs.Common.{◌≡◌, ◌<◌, ◌++◌, ℕ, Bool, true, false, not, List, [], ◌∷◌, length, get_or, refl, sym, ap, ◌∙◌, subst, arith, Option, Some, None, MatchOption}
 use Rattle.std.specs.Bool.{beq, MatchBool, OnTrue}
+use Rattle.std.specs.Option.{IsSome}
 use Rattle.span_model.specs.Columns.{Columns, set_of, sets_of, ◌△◌}
 use Rattle.span_model.specs.Span.{difference, InSpan}
 use Rattle.span_model.proofs.Sets.{△_comm, △_cancel}
@@ -58,3 +59,13 @@ only_row_spans rows known row left holds one at outside answer =
 -- what is left of a leak is no member where the leak is none
 pub left_outside : (known : List (Columns ℕ)) (leak left : Columns ℕ) → (InSpan known left → InSpan known leak) → ¬ InSpan known leak → ¬ InSpan known left
 left_outside known leak left follows none inside = none (follows inside)
+
+-- a sum that is told to be no member
+pub apart_answer : (apart : Bool) (P : Type 0) → apart ≡ true → OnTrue apart (¬ P) → MatchBool (not apart) P (¬ P)
+apart_answer true P e none = none
+apart_answer false P e none = cc e
+
+-- an answer that is there unless something holds that does not
+pub some_unless : {X : Type 0} (found : Option X) (P : Type 0) (Q : X → Type 0) → MatchOption found P Q → ¬ P → IsSome found
+some_unless None P Q h none = absurd (none h)
+some_unless (Some x) P Q h none = refl

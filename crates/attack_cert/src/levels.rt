@@ -1,10 +1,11 @@
 // The steps of a leak, level by level.
 ghost use Rattle.std.specs.Bool.{MatchBool, OnTrue};
 ghost use Rattle.std.specs.Prelude.{slice_index_or, ◌≡◌, ◌≢◌, ◌<◌, ◌≤◌, ◌*◌, ◌^◌, ℕ, ◌++◌, ◌∷◌, [], length, map, All, IfOk, OnOk, IfSome, MatchOption};
-ghost use Rattle.span_model.specs.Columns.{set_of, sets_of, empty, ◌△◌};
+ghost use Rattle.span_model.specs.Columns.{Columns, set_of, sets_of, empty, ◌△◌};
 ghost use Rattle.span_model.specs.Span.{InSpan, SameSpan};
 ghost use Rattle.span_model.specs.Closure.{co_operands, IsClosed};
 ghost use Rattle.gf2_span.specs.Basis.{row_sets};
+ghost use Rattle.gf2_span.specs.Rows.{IsLast};
 ghost use Rattle.linear_view.specs.View.{products_of};
 ghost use Rattle.attack_cert.specs.Levels.{steps_of};
 ghost use Rattle.attack_cert.specs.Levelled.{operand_steps, IsSplit, ReachLeak};
@@ -86,58 +87,71 @@ fn remainder(alloc: Global, span: &Span, row: &BitRow) -> Result<BitRow, AllocEr
     Ok(left)
 }
 
-// Whether the greatest columns of two rows show that their sum is not in the span.
-fn lead_apart(span: &Span, a: &BitRow, b: &BitRow) -> bool
-    ensures { OnTrue result (¬ InSpan (row_sets span.now) (set_of a.now △ set_of b.now)) }
+// Whether the greatest columns of two rows, of which the second is given by that alone, show that their sum is not in the span.
+fn lead_apart(span: &Span, row: &BitRow, lead: u32) -> bool
+    ensures { (left : Columns ℕ) → IsLast left lead → OnTrue result (¬ InSpan (row_sets span.now) (set_of row.now △ left)) }
 {
-    match (a.last(), b.last()) {
-        (Some(c), Some(d)) if c < d => !span.has_lead(d),
-        (Some(c), Some(d)) if d < c => !span.has_lead(c),
+    match row.last() {
+        Some(c) if c < lead => !span.has_lead(lead),
+        Some(c) if lead < c => !span.has_lead(c),
         _ => false,
     }
 }
 
-// Whether the sum of two rows is in the span. Where their greatest columns tell, it takes no memory.
-fn holds_sum(
-    alloc: Global,
-    span: &Span,
-    a: &BitRow,
-    b: &BitRow,
-    scratch: &mut BitRow,
-) -> Result<bool, AllocError>
-    requires a { length a.now ≡ span.now.columns }
-    requires b { length b.now ≡ span.now.columns }
+// Whether the sum of a row and what is left of the leak is in the span. What is left stays as it is.
+fn holds_sum(span: &Span, row: &BitRow, left: &mut BitRow, scratch: &mut BitRow) -> bool
+    requires row { length row.now ≡ span.now.columns }
+    requires left { length left.old ≡ span.now.columns }
     requires scratch { length scratch.old ≡ span.now.columns }
-    ensures answer { IfOk result (λ holds. MatchBool holds
-        (InSpan (row_sets span.now) (set_of a.now △ set_of b.now)) (¬ InSpan (row_sets span.now) (set_of a.now △ set_of b.now))) }
+    ensures answer { MatchBool result
+        (InSpan (row_sets span.now) (set_of row.now △ set_of left.old)) (¬ InSpan (row_sets span.now) (set_of row.now △ set_of left.old)) }
+    ensures columns { length left.new ≡ length left.old }
+    ensures left { set_of left.new ≡ set_of left.old }
     ensures scratch { length scratch.new ≡ length scratch.old }
 {
-    if lead_apart(span, a, b) {
-        return Ok(false);
-    }
-    let mut sum = a.copy(alloc)?;
-    sum.add(b);
-    Ok(span.contains(&sum, scratch))
+    left.add(row);
+    let holds = span.contains(left, scratch);
+    left.add(row);
+    holds
 }
 
-// Whether rows span with the span what is left of the leak, which the span does not.
+// Whether a row gives with the span what is left of the leak, whose greatest column is `lead`. Mostly the greatest columns tell.
+fn gives_left(span: &Span, row: &BitRow, lead: u32, left: &mut BitRow, scratch: &mut BitRow) -> bool
+    requires row { length row.now ≡ span.now.columns }
+    requires lead { IsLast (set_of left.old) lead }
+    requires left { length left.old ≡ span.now.columns }
+    requires scratch { length scratch.old ≡ span.now.columns }
+    ensures answer { MatchBool result
+        (InSpan (row_sets span.now) (set_of row.now △ set_of left.old)) (¬ InSpan (row_sets span.now) (set_of row.now △ set_of left.old)) }
+    ensures columns { length left.new ≡ length left.old }
+    ensures left { set_of left.new ≡ set_of left.old }
+    ensures scratch { length scratch.new ≡ length scratch.old }
+{
+    !lead_apart(span, row, lead) && holds_sum(span, row, left, scratch)
+}
+
+// Whether rows span with the span what is left of the leak, which the span does not, and whose greatest column is `lead`.
 fn spans_left(
     alloc: Global,
     span: &Span,
     rows: &[BitRow],
-    left: &BitRow,
+    lead: u32,
+    left: &mut BitRow,
     scratch: &mut BitRow,
 ) -> Result<bool, AllocError>
     requires rows { (k : ℕ) → k < length rows.now → length (slice_index_or rows.now k []) ≡ span.now.columns }
-    requires left { length left.now ≡ span.now.columns }
-    requires outside { ¬ InSpan (row_sets span.now) (set_of left.now) }
+    requires lead { IsLast (set_of left.old) lead }
+    requires left { length left.old ≡ span.now.columns }
+    requires outside { ¬ InSpan (row_sets span.now) (set_of left.old) }
     requires scratch { length scratch.old ≡ span.now.columns }
     ensures answer { IfOk result (λ spans. MatchBool spans
-        (InSpan (sets_of rows.now ++ row_sets span.now) (set_of left.now)) (¬ InSpan (sets_of rows.now ++ row_sets span.now) (set_of left.now))) }
+        (InSpan (sets_of rows.now ++ row_sets span.now) (set_of left.old)) (¬ InSpan (sets_of rows.now ++ row_sets span.now) (set_of left.old))) }
+    ensures columns { length left.new ≡ length left.old }
+    ensures left { set_of left.new ≡ set_of left.old }
     ensures scratch { length scratch.new ≡ length scratch.old }
 {
     if let [row] = rows {
-        return holds_sum(alloc, span, row, left, scratch);
+        return Ok(gives_left(span, row, lead, left, scratch));
     }
     span.spans_with(alloc, rows, left)
 }
@@ -157,12 +171,14 @@ fn next_level(
     ensures { IfOk result (λ split. IsSplit (products_of view.now) (set_of leak.now) (row_sets span.now) pending.now split.level.items split.rest.items) }
 {
     // reduced once, so that no operand's test reduces the leak by the whole span again
-    let left = remainder(alloc, span, leak)?;
+    let mut left = remainder(alloc, span, leak)?;
     let mut scratch = left.copy(alloc)?;
     let mut level = Vec::new(alloc);
     let mut rest = Vec::new(alloc);
+    let lead = left.last().unwrap();
     for operand in pending {
-        let spans = spans_left(alloc, span, view.operand(*operand), &left, &mut scratch)?;
+        let rows = view.operand(*operand);
+        let spans = spans_left(alloc, span, rows, lead, &mut left, &mut scratch)?;
         if spans {
             level.push(*operand)?;
         } else {

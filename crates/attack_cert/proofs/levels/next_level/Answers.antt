@@ -1,11 +1,11 @@
-use Rattle.std.proofs.Common.{◌≡◌, ◌<◌, ◌≤◌, ◌+◌, ◌∷◌, ◌++◌, List, [], ℕ, Bool, Vec, Global, length, get_or, take, subst, sym, ap, ◌∙◌}
+use Rattle.std.proofs.Common.{◌≡◌, ◌<◌, ◌≤◌, ◌+◌, ◌∷◌, ◌++◌, List, [], ℕ, Bool, Vec, Global, length, get_or, take, refl, subst, sym, ap, ◌∙◌}
 use Rattle.std.specs.Bool.{MatchBool}
 use Rattle.std.proofs.lemmas.List.{take_all, get_or_default}
 use Rattle.span_model.specs.Columns.{Columns, set_of, sets_of, ◌△◌}
 use Rattle.span_model.specs.Span.{InSpan}
 use Rattle.span_model.specs.Closure.{Step, operand}
 use Rattle.span_model.proofs.Sets.{△_cancel, △_cancel_right}
-use Rattle.span_model.proofs.Members.{in_as, in_sum, in_front}
+use Rattle.span_model.proofs.Members.{empty_in, in_as, in_sum, in_front}
 use Rattle.gf2_span.specs.Basis.{row_sets}
 use Rattle.linear_view.specs.View.{products_of}
 use Rattle.linear_view.specs.declared.operand.Side.TheVariants.{Left}
@@ -14,6 +14,7 @@ use Rattle.attack_cert.specs.Levels.{AreThose, none}
 use Rattle.attack_cert.specs.Levelled.{operand_steps, IsSpanned}
 use Rattle.linear_view.specs.declared.operand.Operand.{Operand}
 use Rattle.attack_cert.proofs.Levelling.{those_more, others_more}
+use Rattle.attack_cert.proofs.Sums.{some_unless}
 use Rattle.attack_cert.proofs.levels.next_level.Goals as goal
 use Rattle.attack_cert.proofs.levels.next_level.Goals.{then-spans+in_ok-push, else-spans+in_ok-push-2}
 
@@ -25,11 +26,19 @@ left_of_leak : (rows known : List (Columns ℕ)) (leak left : Columns ℕ) → I
 left_of_leak rows known leak left same h =
     in_as (rows ++ known) (△_cancel leak left) (in_sum (rows ++ known) leak (leak △ left) h (in_front rows known (leak △ left) same))
 
+-- what is left of a leak that is no member is none
+outside_left : (known : List (Columns ℕ)) (leak left : Columns ℕ) → ¬ InSpan known leak → InSpan known (leak △ left) → ¬ InSpan known left
+outside_left known leak left outside same inside = outside (in_as known (△_cancel_right leak left) (in_sum known (leak △ left) left same inside))
+
+pub unwrap-lead-requires : goal.unwrap-lead-requires
+unwrap-lead-requires c = some_unless c.last.result _ _ c.last.ensures
+    (λ none. outside_left (row_sets c.args.span.now) (set_of c.args.leak.now) (set_of c.in_ok-left.left) c.requires.outside c.in_ok-left.ensures.same
+    (in_as (row_sets c.args.span.now) (sym none) (empty_in (row_sets c.args.span.now))))
+
 pub spans_left-requires-clause-outside : goal.spans_left-requires-clause-outside
 spans_left-requires-clause-outside c inside =
-    let known = row_sets c.args.span.now in
-    c.requires.outside (in_as known (△_cancel_right (set_of c.args.leak.now) (set_of c.in_ok-left.left))
-    (in_sum known (set_of c.args.leak.now △ set_of c.in_ok-left.left) (set_of c.in_ok-left.left) c.in_ok-left.ensures.same inside))
+    outside_left (row_sets c.args.span.now) (set_of c.args.leak.now) (set_of c.in_ok-left.left) c.requires.outside c.in_ok-left.ensures.same
+    (in_as (row_sets c.args.span.now) c.loop-operand.invariant.left inside)
 
 pub loop-operand-init : goal.loop-operand-init
 loop-operand-init c =
@@ -37,6 +46,8 @@ loop-operand-init c =
     record {
       spanned = subst (λ (r : List Operand). AreThose P [] (operand_steps r)) (sym c.new-level.ensures.items) none;
       others = subst (λ (r : List Operand). AreThose (λ step. ¬ P step) [] (operand_steps r)) (sym c.new-rest.ensures.items) none;
+      columns = c.in_ok-left.ensures.columns ∙ c.requires.leak ∙ sym c.requires.span;
+      left = refl;
       scratch = ap length c.in_ok-scratch.ensures ∙ c.in_ok-left.ensures.columns ∙ c.requires.leak ∙ sym c.requires.span;
     }
 
@@ -49,12 +60,13 @@ loop-operand-preserved c =
     let t : Operand = get_or c.args.pending.now i blank in
     let within : i < length c.args.pending.now = c.loop-operand-test.true in
     let is : t ≡ get_or c.args.pending.now i t = get_or_default c.args.pending.now i blank t within in
-    let rows : sets_of c.operand.result.now ≡ operand (products_of c.args.view.now) (step_of t) = c.operand.ensures.sets in
-    let near = sets_of c.operand.result.now in
+    let rows : sets_of c.operand-rows.result.now ≡ operand (products_of c.args.view.now) (step_of t) = c.operand-rows.ensures.sets in
+    let near = sets_of c.operand-rows.result.now in
     let known = row_sets c.args.span.now in
     let A : Type 0 = InSpan (near ++ known) (set_of c.args.leak.now) in
     let B : Type 0 = InSpan (near ++ known) (set_of c.in_ok-left.left) in
-    let told : MatchBool c.in_ok-spans.spans B (¬ B) = c.in_ok-spans.ensures.answer in
+    let told : MatchBool c.in_ok-spans.spans B (¬ B) =
+    subst (λ (v : Columns ℕ). MatchBool c.in_ok-spans.spans (InSpan (near ++ known) v) (¬ InSpan (near ++ known) v)) c.loop-operand.invariant.left c.in_ok-spans.ensures.answer in
     let same : InSpan known (set_of c.args.leak.now △ set_of c.in_ok-left.left) = c.in_ok-left.ensures.same in
     let level = c.loop-operand.level.items in
     let rest = c.loop-operand.rest.items in
@@ -66,6 +78,8 @@ loop-operand-preserved c =
           let level_is : c.if-spans.level.items ≡ level ++ t ∷ [] = ap (λ (v : Vec Operand Global). v.items) w.level-is ∙ w.in_ok-push.ensures.items in
           let rest_is : c.if-spans.rest.items ≡ rest = ap (λ (v : Vec Operand Global). v.items) w.rest-is in
           record {
+            columns = c.in_ok-spans.ensures.columns ∙ c.loop-operand.invariant.columns;
+            left = c.in_ok-spans.ensures.left ∙ c.loop-operand.invariant.left;
             scratch = c.in_ok-spans.ensures.scratch ∙ c.loop-operand.invariant.scratch;
             spanned = subst (λ (r : List Operand). AreThose P (operand_steps upto) (operand_steps r)) (sym level_is)
                 (those_more P c.args.pending.now level i t within is c.loop-operand.invariant.spanned p);
@@ -79,6 +93,8 @@ loop-operand-preserved c =
           let level_is : c.if-spans.level.items ≡ level = ap (λ (v : Vec Operand Global). v.items) w.level-is in
           let rest_is : c.if-spans.rest.items ≡ rest ++ t ∷ [] = ap (λ (v : Vec Operand Global). v.items) w.rest-is ∙ w.in_ok-push-2.ensures.items in
           record {
+            columns = c.in_ok-spans.ensures.columns ∙ c.loop-operand.invariant.columns;
+            left = c.in_ok-spans.ensures.left ∙ c.loop-operand.invariant.left;
             scratch = c.in_ok-spans.ensures.scratch ∙ c.loop-operand.invariant.scratch;
             spanned = subst (λ (r : List Operand). AreThose P (operand_steps upto) (operand_steps r)) (sym level_is)
                 (others_more P c.args.pending.now level i t within is c.loop-operand.invariant.spanned n);

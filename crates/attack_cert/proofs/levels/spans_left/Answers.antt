@@ -1,5 +1,4 @@
 use Rattle.std.proofs.Common.{◌≡◌, length, arith}
-use Rattle.std.proofs.lemmas.Result.{IfOk-weaker}
 use Rattle.span_model.specs.Columns.{set_of}
 use Rattle.gf2_span.specs.Basis.{row_sets}
 use Rattle.attack_cert.proofs.Sums.{only_row_spans}
@@ -8,6 +7,5 @@ use Rattle.attack_cert.proofs.levels.spans_left.Goals as goal
 pub returns-in-len1-clause-answer : goal.returns-in-len1-clause-answer
 returns-in-len1-clause-answer c =
     let one : length c.args.rows.now ≡ 1 = omega arith in
-    IfOk-weaker c.holds_sum.result _ _
-    (λ holds answer. only_row_spans c.args.rows.now (row_sets c.args.span.now) c.row-item.result (set_of c.args.left.now) holds one c.row-item.is c.requires.outside answer)
-    c.holds_sum.ensures.answer
+    only_row_spans c.args.rows.now (row_sets c.args.span.now) c.row-item.result (set_of c.args.left.now) c.gives_left.result one c.row-item.is c.requires.outside
+    c.gives_left.ensures.answer

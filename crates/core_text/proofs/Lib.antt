@@ -7,3 +7,4 @@ pub mod CoreLemmas
 pub mod RoundLemmas
 pub mod FaultLemmas
 pub mod PlainLemmas
+pub mod DigitLemmas

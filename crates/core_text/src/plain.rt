@@ -1,11 +1,11 @@
 //! Equations `rK = xor rA rB`, `rK = and rA rB` and `rK = not rA`, which most lines of a core are. Such a line is read in one pass over
 //! its bytes. Where it is anything else, also a line with a fault, there is no answer, and it is left to be read by its words.
-ghost use Rattle.std.specs.Prelude.{◌≡◌, ◌<◌, ◌≤◌, ◌++◌, ℕ, codes, IfSome, MatchOption};
+ghost use Rattle.std.specs.Prelude.{◌≡◌, ◌<◌, ◌≤◌, ◌^◌, ◌++◌, ℕ, codes, decimal, IfSome, MatchOption};
 ghost use Rattle.core_text.specs.Parts.{TakesEquation};
 ghost use Rattle.usuba0.specs.Circuit.{IsEquation};
 ghost use Rattle.usuba0.specs.CoreText.{register_text, equation_text};
 
-use text_lines::{Lines, front_number};
+use text_lines::Lines;
 use usuba0::{Gate, Reg};
 
 /// Takes the next line, where it is such an equation and makes register `next`.
@@ -98,4 +98,35 @@ fn register(bytes: &[u8]) -> Option<(Reg, &[u8])>
         }
         _ => None,
     }
+}
+
+// A number below 2^28 that the bytes begin with, and the bytes after it.
+fn front_number(bytes: &[u8]) -> Option<(u32, &[u8])>
+    ensures { IfSome result (λ front. bytes.now ≡ decimal front.0 ++ front.1.now) }
+{
+    match bytes {
+        [b'0', rest @ ..] => Some((0, rest)),
+        [first, rest @ ..] if first.is_ascii_digit() => with_digits(u32::from(*first - b'0'), rest),
+        _ => None,
+    }
+}
+
+// The number of some digits and of those that the bytes begin with, and the bytes after them.
+fn with_digits(value: u32, bytes: &[u8]) -> Option<(u32, &[u8])>
+    requires some { 0 < value }
+    requires small { value < 2 ^ 28 }
+    ensures { IfSome result (λ front. decimal value ++ bytes.now ≡ decimal front.0 ++ front.1.now) }
+{
+    let mut value = value;
+    let mut rest = bytes;
+    while let [digit, more @ ..] = rest
+        && digit.is_ascii_digit()
+    {
+        value = value * 10 + u32::from(*digit - b'0');
+        if value >= 1 << 28 {
+            return None;
+        }
+        rest = more;
+    }
+    Some((value, rest))
 }

@@ -10,5 +10,5 @@ mod words;
 pub use cutting::cut;
 pub use laws::{lines_read_back, numbers_read_back};
 pub use lines::Lines;
-pub use number::{front_number, is_number, number_below, number_value};
+pub use number::{is_number, number_below, number_value};
 pub use words::{Words, are_numbers, is_word};

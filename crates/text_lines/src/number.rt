@@ -1,4 +1,4 @@
-ghost use Rattle.std.specs.Prelude.{◌≡◌, ◌<◌, ◌≤◌, ◌+◌, ◌*◌, ◌^◌, ◌++◌, true, None, Some, nat_lt, if◌then◌else◌, decimal, IfSome};
+ghost use Rattle.std.specs.Prelude.{◌≡◌, ◌<◌, ◌≤◌, ◌+◌, ◌*◌, ◌^◌, true, None, Some, nat_lt, if◌then◌else◌};
 ghost use Rattle.std.specs.Char.{is_ascii_digit, digit_value};
 ghost use Rattle.std.specs.List.{list_all};
 ghost use Rattle.std.specs.Option.{SomeIff};
@@ -54,35 +54,4 @@ pub fn number_below(word: &[u8], bound: u64) -> Option<u32>
         Some(value) if value < bound => Some(value as u32),
         _ => None,
     }
-}
-
-/// A number below 2^28 that the bytes begin with, and the bytes after it. No answer says nothing of the bytes.
-pub fn front_number(bytes: &[u8]) -> Option<(u32, &[u8])>
-    ensures { IfSome result (λ front. bytes.now ≡ decimal front.0 ++ front.1.now) }
-{
-    match bytes {
-        [b'0', rest @ ..] => Some((0, rest)),
-        [first, rest @ ..] if first.is_ascii_digit() => with_digits(u32::from(*first - b'0'), rest),
-        _ => None,
-    }
-}
-
-// The number of some digits and of those that the bytes begin with, and the bytes after them.
-fn with_digits(value: u32, bytes: &[u8]) -> Option<(u32, &[u8])>
-    requires some { 0 < value }
-    requires small { value < 2 ^ 28 }
-    ensures { IfSome result (λ front. decimal value ++ bytes.now ≡ decimal front.0 ++ front.1.now) }
-{
-    let mut value = value;
-    let mut rest = bytes;
-    while let [digit, more @ ..] = rest
-        && digit.is_ascii_digit()
-    {
-        value = value * 10 + u32::from(*digit - b'0');
-        if value >= 1 << 28 {
-            return None;
-        }
-        rest = more;
-    }
-    Some((value, rest))
 }

@@ -1,7 +1,7 @@
 use Rattle.std.proofs.Common.{◌≡◌, ℕ, ◌+◌, ◌-◌, ◌*◌, ◌++◌, List, true, get_or, refl, ap, ◌∙◌, arith, decimal}
 use Rattle.std.specs.Char.{is_ascii_digit}
-use Rattle.text_lines.proofs.NumberLemmas.{front_byte, more_digits}
-use Rattle.text_lines.proofs.number.with_digits.Goals as goal
+use Rattle.core_text.proofs.DigitLemmas.{front_byte, more_digits}
+use Rattle.core_text.proofs.plain.with_digits.Goals as goal
 
 pub loop-rest-preserved : goal.loop-rest-preserved
 loop-rest-preserved c =

@@ -1,5 +1,5 @@
 use Rattle.std.proofs.Common.{◌≡◌, ◌^◌, ◌<◌, ◌++◌, length, decimal}
-use Rattle.text_lines.proofs.number.with_digits.Given as goal
+use Rattle.core_text.proofs.plain.with_digits.Given as goal
 
 abbrev pub invariant-loop-rest : goal.invariant-loop-rest
 invariant-loop-rest l =

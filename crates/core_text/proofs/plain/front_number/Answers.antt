@@ -1,8 +1,8 @@
 use Rattle.std.proofs.Common.{◌≡◌, ℕ, List, ◌-◌, ◌++◌, true, get_or, refl, sym, ◌∙◌, subst, arith, decimal}
 use Rattle.std.specs.Char.{is_ascii_digit}
 use Rattle.std.specs.Option.{IfSome}
-use Rattle.text_lines.proofs.NumberLemmas.{front_byte, one_digit}
-use Rattle.text_lines.proofs.number.front_number.Goals as goal
+use Rattle.core_text.proofs.DigitLemmas.{front_byte, one_digit}
+use Rattle.core_text.proofs.plain.front_number.Goals as goal
 
 pub returns-in-48 : goal.returns-in-48
 returns-in-48 c =

@@ -87,7 +87,7 @@ fn product_operands(
     let last = last_reads(alloc, width, inputs, gates)?;
     let mut registers = input_registers(alloc, columns, width, inputs)?;
     let mut stage = Stage::first(width);
-    let mut seen = Seen::new(alloc, core.products())?;
+    let mut seen = Seen::new(alloc);
     let mut products = Vec::new(alloc);
     for gate in gates {
         if let Some(pair) = pair_of(

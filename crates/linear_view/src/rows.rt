@@ -9,7 +9,8 @@ ghost use Rattle.linear_view.specs.Rows.{RegisterRows, own_row, input_rows, gate
 ghost use Rattle.linear_view.specs.Walk.{HoldsReads, HoldsNeeds, KeepsLater};
 
 use crate::column::{Column, ColumnKind};
-use crate::seen::Seen;
+use crate::seen::{Seen, key_of};
+use crate::shared_rows::SharedRows;
 use crate::view::Pair;
 use crate::walk::{Stage, reads};
 use gf2_span::{BitRow, copy_rows};
@@ -257,7 +258,8 @@ fn copy_of(
     }
 }
 
-// The rows of both operands of the equation, if it is a product. Rows that no later equation reads are moved out of the registers.
+// The rows of both operands of the equation, if it is a product. Rows that are new, and that no later equation reads, are moved
+// out of the registers.
 pub(crate) fn pair_of(
     alloc: Global,
     last_reads: &[usize],
@@ -276,16 +278,43 @@ pub(crate) fn pair_of(
 {
     match *gate {
         Gate::And(a, b) => {
-            let left = if a.0 == b.0 {
-                copied(alloc, registers, a)?
+            let left = shared(alloc, last_reads, k, registers, seen, a)?;
+            let right = if a.0 == b.0 {
+                left.share()?
             } else {
-                taken(alloc, last_reads, k, registers, a)?
+                shared(alloc, last_reads, k, registers, seen, b)?
             };
-            let right = taken(alloc, last_reads, k, registers, b)?;
-            Ok(Some(Pair::new(seen.share(alloc, left)?, seen.share(alloc, right)?)))
+            Ok(Some(Pair::new(left, right)))
         }
         _ => Ok(None),
     }
+}
+
+// The rows of a register, held together with equal ones that were seen. The register keeps them where an equation after number
+// `k` reads it.
+fn shared(
+    alloc: Global,
+    last_reads: &[usize],
+    k: usize,
+    registers: &mut Vec<List<BitRow>>,
+    seen: &mut Seen,
+    register: Reg,
+) -> Result<SharedRows, AllocError>
+    requires known { register.0 < length last_reads.now }
+    requires held { register.0 < vec_len registers.old }
+    ensures rows { IfOk result (λ rows. rows ≡ slice_index_or registers.old.items register.0 []) }
+    ensures kept { KeepsLater last_reads.now k registers.old.items registers.new.items }
+    ensures others { (r : ℕ) → r ≢ register.0
+        → slice_index_or registers.new.items r [] ≡ slice_index_or registers.old.items r [] }
+{
+    let held = registers[register.0 as usize].as_slice();
+    let key = key_of(held);
+    if let Some(rows) = seen.find(key, held)? {
+        return Ok(rows);
+    }
+    let rows = SharedRows::new(alloc, taken(alloc, last_reads, k, registers, register)?)?;
+    seen.note(key, &rows)?;
+    Ok(rows)
 }
 
 // A copy of the rows of a register.

@@ -4,49 +4,30 @@ ghost use Rattle.std.specs.Prelude.{◌≡◌, ◌≢◌, ℕ, length, IfOk, IfS
 use crate::shared_rows::SharedRows;
 use gf2_span::BitRow;
 use std::alloc::{AllocError, Global};
-use tor_edge::List;
+use std::collections::HashMap;
 
-// The rows in lanes, equal ones in the same lane.
+// Of how many of a row's first columns its key is made.
+const FIRST_COLUMNS: u32 = 8;
+
+// The rows that were seen last of each key. Equal rows have the same key.
 #[derive(Drop)]
 pub(crate) struct Seen {
-    lanes: Vec<Vec<SharedRows>>,
+    by_key: HashMap<u64, SharedRows>,
 }
 
 impl Seen {
     // None yet.
-    pub(crate) fn new(alloc: Global, lanes: u32) -> Result<Seen, AllocError> {
-        let mut all = Vec::with_capacity(alloc, lanes as usize)?;
-        for _ in 0..lanes {
-            all.push(Vec::new(alloc))?;
+    pub(crate) fn new(alloc: Global) -> Seen {
+        Seen {
+            by_key: HashMap::new(alloc),
         }
-        Ok(Seen { lanes: all })
     }
 
-    // The rows, held together with equal ones that were seen.
-    pub(crate) fn share(
-        &mut self,
-        alloc: Global,
-        rows: List<BitRow>,
-    ) -> Result<SharedRows, AllocError>
-        ensures { IfOk result (λ shared. shared ≡ rows) }
-    {
-        let lane = lane_of(rows.as_slice(), self.lanes.len());
-        if let Some(seen) = self.find(lane, rows.as_slice())? {
-            return Ok(seen);
-        }
-        let shared = SharedRows::new(alloc, rows)?;
-        self.note(lane, &shared)?;
-        Ok(shared)
-    }
-
-    // Equal rows of a lane.
-    fn find(&self, lane: usize, rows: &[BitRow]) -> Result<Option<SharedRows>, AllocError>
+    // Rows with this key that are equal to these, if there are any.
+    pub(crate) fn find(&self, key: u64, rows: &[BitRow]) -> Result<Option<SharedRows>, AllocError>
         ensures { IfOk result (λ found. IfSome found (λ seen. seen ≡ rows.now)) }
     {
-        let Some(lane) = self.lanes.get(lane) else {
-            return Ok(None);
-        };
-        for seen in lane {
+        if let Some(seen) = self.by_key.get(&key) {
             if are_equal(seen.as_slice(), rows) {
                 return Ok(Some(seen.share()?));
             }
@@ -54,28 +35,40 @@ impl Seen {
         Ok(None)
     }
 
-    fn note(&mut self, lane: usize, rows: &SharedRows) -> Result<(), AllocError> {
-        if let Some(lane) = self.lanes.get_mut(lane) {
-            lane.push(rows.share()?)?;
-        }
+    // Notes rows with this key.
+    pub(crate) fn note(&mut self, key: u64, rows: &SharedRows) -> Result<(), AllocError> {
+        let _before = self.by_key.insert(key, rows.share()?)?;
         Ok(())
     }
 }
 
-// The lane of rows among so many, by their least and greatest columns.
-fn lane_of(rows: &[BitRow], lanes: usize) -> usize {
-    let mut key = 0usize;
+// The key of rows.
+pub(crate) fn key_of(rows: &[BitRow]) -> u64 {
+    let mut key = 0;
     for row in rows {
-        key = key.wrapping_mul(31).wrapping_add(ends(row));
+        key = with_row(key, row);
     }
-    key.checked_rem(lanes).unwrap_or(0)
+    key
 }
 
-fn ends(row: &BitRow) -> usize {
-    match (row.first(), row.last()) {
-        (Some(first), Some(last)) => first as usize * 40_503 + last as usize,
-        _ => 1,
+// A key with a row more: with the row's greatest column and its first few, which tell most rows apart.
+fn with_row(key: u64, row: &BitRow) -> u64 {
+    let mut key = with_column(key, row.last().unwrap_or(0));
+    let mut start = 0;
+    for _ in 0..FIRST_COLUMNS {
+        let Some(c) = row.first_from(start) else {
+            return key;
+        };
+        key = with_column(key, c);
+        start = c.saturating_add(1);
     }
+    key
+}
+
+// A key with a column more.
+fn with_column(key: u64, column: u32) -> u64 {
+    key.wrapping_mul(0x9e37_79b9_7f4a_7c15)
+        .wrapping_add(u64::from(column) + 1)
 }
 
 fn are_equal(a: &[BitRow], b: &[BitRow]) -> bool

@@ -96,8 +96,8 @@ loop-gate-preserved c =
     record {
       under_way = next;
       products =
-          products_step names all gs k (gate.Const 0) old c.match-branch-5.products.items c.in_ok-pair.field-0 c.loop-gate-test.true c.loop-gate.invariant.products
-          (elim c.match-branch-5.branch [
+          products_step names all gs k (gate.Const 0) old c.match-branch-4.products.items c.in_ok-pair.field-0 c.loop-gate-test.true c.loop-gate.invariant.products
+          (elim c.match-branch-4.branch [
             | in-Some+in_ok-push v ↦
                 ap (λ p. p.items) v.products-is ∙ v.in_ok-push.ensures.items ∙ ap (λ (found : Option Operands). old ++ option_to_list found) (sym v.in-Some.is)
             | in_default v ↦

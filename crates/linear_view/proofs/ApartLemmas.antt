@@ -41,6 +41,19 @@ present-append name xs ys there = by (list_any (same_column name) xs) refl
     by false e = inr (sym (list_any-append (same_column name) xs ys
         ∙ ap (λ (c : Bool). c || list_any (same_column name) ys) e) ∙ there)
 
+-- a name that is in one of two lists is among both
+pub present_left : (name : Column) (xs ys : List Column) → IsPresent name xs → IsPresent name (xs ++ ys)
+present_left name xs ys h =
+    list_any-append (same_column name) xs ys ∙ ap (λ (b : Bool). b || list_any (same_column name) ys) h
+
+pub present_right : (name : Column) (xs ys : List Column) → IsPresent name ys → IsPresent name (xs ++ ys)
+present_right name xs ys h =
+    list_any-append (same_column name) xs ys ∙ ap (λ (b : Bool). list_any (same_column name) xs || b) h ∙ or_true (list_any (same_column name) xs)
+  where
+    or_true : (b : Bool) → (b || true) ≡ true
+    or_true true = refl
+    or_true false = refl
+
 -- two lists that have no name in common
 apart-append : (xs ys : List Column) → AreApart xs → AreApart ys → ((name : Column) → IsPresent name xs
     → IsPresent name ys → ⊥) → AreApart (xs ++ ys)

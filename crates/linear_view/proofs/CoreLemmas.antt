@@ -1,8 +1,9 @@
 -- The rows of all registers of a circuit, and how far a walk over its equations has them.
-use Rattle.std.proofs.Common.{◌≡◌, ℕ, suc, ◌+◌, ◌-◌, ◌%◌, ◌<◌, ◌≤◌, ◌==◌, ◌⊎◌, Bool, List, [], ◌∷◌, ◌++◌, length, map, take, drop, get_or, set, refl, sym, ap, ◌∙◌, subst, arith, ⊎_elim, drop-cons, if◌then◌else◌, nat_lt}
+use Rattle.std.proofs.Common.{◌≡◌, ℕ, suc, ◌+◌, ◌-◌, ◌%◌, ◌<◌, ◌≤◌, ◌==◌, ◌⊎◌, Bool, List, [], ◌∷◌, ◌++◌, length, map, take, drop, get_or, refl, sym, ap, ◌∙◌, subst, arith, ⊎_elim, drop-cons, if◌then◌else◌, nat_lt, true}
 use Rattle.std.specs.Int.{bit_at}
 use Rattle.std.specs.List.{AllByRecursion, range_with_len}
-use Rattle.std.proofs.lemmas.List.{get_or_append_left, get_or_push, length_push, take-append-drop, length-take-le, get_or-set_same, get_or-set_other}
+use Rattle.std.proofs.lemmas.List.{get_or_append_left, get_or_push, length_push, take-append-drop, length-take-le}
+use Rattle.std.proofs.lemmas.Option.{slice_get-get_or}
 use Rattle.std.proofs.lemmas.List.FromFn.{get_or-map-range_with_len, length-map-range_with_len}
 use mathlib.Core.Path.{fun_ext}
 use Rattle.span_model.specs.Columns.{Columns, empty, ◌△◌}
@@ -15,9 +16,9 @@ use Rattle.linear_view.specs.declared.column.Column.{Column}
 use Rattle.linear_view.specs.declared.walk.Stage.{Stage}
 use Rattle.linear_view.specs.Names.{bits}
 use Rattle.linear_view.specs.Rows.{Rows, RegisterRows, rows_at, row_at, rows_over, gate_row, gate_rows, input_rows, rows_after, core_rows}
-use Rattle.linear_view.specs.Walk.{reads, HoldsReads, AreReadLate, KeepsLater}
+use Rattle.linear_view.specs.Walk.{reads, needs, operands, HoldsOperands, HoldsNeeds, IsReadAfter, AreTakenLate, TellsLastReads, KeepsLater}
 use Rattle.linear_view.proofs.ColumnLemmas.{products_of-cons, refreshes_of-cons, products_of-more, refreshes_of-more}
-use Rattle.linear_view.proofs.WalkLemmas.{reads_earlier, all_weaker}
+use Rattle.linear_view.proofs.WalkLemmas.{reads_earlier, takes_earlier, takes_operands, takes_needs, all_weaker}
 
 -- ---- rows that stay
 
@@ -140,15 +141,20 @@ holds_first names w n gs last held e =
           ∙ ap (rows_over names) (sym (all_rows-input w n gs r within));
     }
 
-both_all : {X : Type 0} (P Q R : X → Type 0) (xs : List X) → ((x : X) → P x → Q x → R x) → AllByRecursion P xs → AllByRecursion Q xs → AllByRecursion R xs
+-- two facts of each item give a third
+pub both_all : {X : Type 0} (P Q R : X → Type 0) (xs : List X) → ((x : X) → P x → Q x → R x) → AllByRecursion P xs → AllByRecursion Q xs → AllByRecursion R xs
 both_all P Q R [] f p q = tt
 both_all P Q R (x ∷ xs) f p q = (f x p.0 q.0, both_all P Q R xs f p.1 q.1)
 
-pub holds_reads : (names : List Column) (all : RegisterRows) (w n k : ℕ) (last : List ℕ) (held : List (List (List Bool))) (g : Gate)
-    → HoldsLater names all n k last held → IsEquation w (n + k) g → AreReadLate last k g → HoldsReads names all held g
-holds_reads names all w n k last held g holds is late =
-    both_all (λ (a : Reg). a.0 < n + k) (λ (a : Reg). k ≤ get_or last a.0 0) (λ (a : Reg). get_or held a.0 [] ≡ rows_over names (rows_at all a)) (reads g)
-    (λ a below later. holds.later a.0 below later) (reads_earlier w (n + k) g is) late
+-- of registers that this equation takes
+holds_each : (names : List Column) (all : RegisterRows) (n k : ℕ) (last : List ℕ) (held : List (List (List Bool))) (rs : List Reg)
+    → HoldsLater names all n k last held → AllByRecursion (λ (a : Reg). a.0 < n + k) rs
+    → AllByRecursion (λ (a : Reg). k ≤ get_or last a.0 0) rs
+    → AllByRecursion (λ (a : Reg). get_or held a.0 [] ≡ rows_over names (rows_at all a)) rs
+holds_each names all n k last held rs holds earlier late =
+    both_all (λ (a : Reg). a.0 < n + k) (λ (a : Reg). k ≤ get_or last a.0 0)
+    (λ (a : Reg). get_or held a.0 [] ≡ rows_over names (rows_at all a)) rs
+    (λ a below later. holds.later a.0 below later) earlier late
 
 pub holds_next : (names : List Column) (w n k p f : ℕ) (gs : List Gate) (d : Gate) (last : List ℕ) (held new : List (List (List Bool)))
     → k < length gs → IsEquation w (n + k) (get_or gs k d) → p ≡ products_of (take k gs) → f ≡ refreshes_of (take k gs)
@@ -177,21 +183,6 @@ holds_next names w n k p f gs d last held new h is ep ef holds keeps =
   where
     cases : (r m : ℕ) → r < m + 1 → (r < m) ⊎ (r ≡ m)
     cases r m h = grind arith
-
--- a register that is wanted at the end
-pub late_wanted : (last : List ℕ) (r n k : ℕ) (g : Gate) → k ≤ n → r < length last → AreReadLate last k g → AreReadLate (set last r n) k g
-late_wanted last r n k g h within late =
-    all_weaker (λ (a : Reg). k ≤ get_or last a.0 0) (λ (a : Reg). k ≤ get_or (set last r n) a.0 0) (reads g) (λ a late. at a.0 late) late
-  where
-    cases : (i r : ℕ) → (i ≡ r) ⊎ (i ≡ r → ⊥)
-    cases i r = grind arith
-
-    at : (i : ℕ) → k ≤ get_or last i 0 → k ≤ get_or (set last r n) i 0
-    at i late =
-        ⊎_elim
-        (λ (same : i ≡ r). omega (arith, h, ap (λ (m : ℕ). get_or (set last r n) m 0) same ∙ get_or-set_same last r n 0 within))
-        (λ (other : i ≡ r → ⊥). omega (arith, late, get_or-set_other last r i n 0 other))
-        (cases i r)
 
 -- before equation k, where so many equations, products and refreshes came
 pub record IsUnderWay (names : List Column) (w n : ℕ) (gs : List Gate) (k : ℕ) (stage : Stage) (last : List ℕ) (held : List (List (List Bool))) : Type 0 where
@@ -240,11 +231,41 @@ under_way_equation names w n gs k many d stage last held h are way e =
     subst (λ (m : ℕ). IsEquation stage.width m (get_or gs k d)) (sym (e ∙ way.holds.count))
     (subst (λ (m : ℕ). IsEquation m (n + k) (get_or gs k d)) (sym way.width) (equation_at w n gs k d are h))
 
-pub under_way_reads : (names : List Column) (w n : ℕ) (gs : List Gate) (k : ℕ) (d : Gate) (stage : Stage) (last : List ℕ) (held : List (List (List Bool)))
-    → k < length gs → AreEquations w n gs → AreReadLate last k (get_or gs k d) → IsUnderWay names w n gs k stage last held
-    → HoldsReads names (all_rows w n gs) held (get_or gs k d)
-under_way_reads names w n gs k d stage last held h are late way =
-    holds_reads names (all_rows w n gs) w n k last held (get_or gs k d) way.holds (equation_at w n gs k d are h) late
+-- what the numbers of last reads tell of the equation of number k
+pub taken_late : (inputs n k : ℕ) (gs : List Gate) (d : Gate) (last : List ℕ) → n ≡ inputs → TellsLastReads inputs gs last → k < length gs
+    → AreTakenLate last (n + k) k (get_or gs k d)
+taken_late inputs n k gs d last e told h =
+    subst (λ (m : ℕ). AreTakenLate last (m + k) k (get_or gs k d)) (sym e)
+    (told.late k (get_or gs k d) (slice_get-get_or gs k d h))
+
+pub under_way_operands : (names : List Column) (w n : ℕ) (gs : List Gate) (k : ℕ) (d : Gate) (stage : Stage) (last : List ℕ) (held : List (List (List Bool)))
+    → k < length gs → AreEquations w n gs → AreTakenLate last (n + k) k (get_or gs k d) → IsUnderWay names w n gs k stage last held
+    → HoldsOperands names (all_rows w n gs) held (get_or gs k d)
+under_way_operands names w n gs k d stage last held h are late way =
+    let g = get_or gs k d in
+    let is_read = nat_lt k (get_or last (n + k) 0) in
+    holds_each names (all_rows w n gs) n k last held (operands g) way.holds
+    (takes_operands (λ (a : Reg). a.0 < n + k) is_read g (takes_earlier w (n + k) is_read g (equation_at w n gs k d are h)))
+    (takes_operands (λ (a : Reg). k ≤ get_or last a.0 0) is_read g late)
+
+-- the test of a number that is below another
+pub below_is : (a b : ℕ) → a < b → nat_lt a b ≡ true
+below_is a b h = grind arith
+
+pub under_way_needs : (names : List Column) (w n : ℕ) (gs : List Gate) (k many : ℕ) (d : Gate) (stage : Stage) (last : List ℕ) (held : List (List (List Bool)))
+    → k < length gs → AreEquations w n gs → AreTakenLate last (n + k) k (get_or gs k d) → IsUnderWay names w n gs k stage last held
+    → many ≡ length held → IsReadAfter last many stage.equations
+    → HoldsNeeds names (all_rows w n gs) held (get_or gs k d)
+under_way_needs names w n gs k many d stage last held h are late way e read =
+    let g = get_or gs k d in
+    let is_read = nat_lt k (get_or last (n + k) 0) in
+    let read_here : k < get_or last (n + k) 0 =
+    subst (λ (m : ℕ). k < get_or last m 0) (e ∙ way.holds.count)
+    (subst (λ (m : ℕ). m < get_or last many 0) way.equations read) in
+    let is : is_read ≡ true = below_is k (get_or last (n + k) 0) read_here in
+    holds_each names (all_rows w n gs) n k last held (needs g) way.holds
+    (takes_needs (λ (a : Reg). a.0 < n + k) is_read g is (takes_earlier w (n + k) is_read g (equation_at w n gs k d are h)))
+    (takes_needs (λ (a : Reg). k ≤ get_or last a.0 0) is_read g is late)
 
 pub under_way_counts : (names : List Column) (w n : ℕ) (gs : List Gate) (k : ℕ) (stage : Stage) (last : List ℕ) (held : List (List (List Bool)))
     → k < length gs → IsUnderWay names w n gs k stage last held → (stage.products ≤ k) × (stage.refreshes ≤ k)

@@ -3,9 +3,15 @@ pub mod TextLemmas
 pub mod NameLemmas
 pub mod ColumnLemmas
 pub mod ApartLemmas
+pub mod SomeLemmas
 pub mod WalkLemmas
 pub mod RowLemmas
 pub mod CoreLemmas
 pub mod ViewLemmas
+pub mod WithinLemmas
 pub mod AttackLemmas
+pub mod NarrowLemmas
+pub mod NarrowAttackLemmas
 pub mod WithLemmas
+pub mod PlaceLemmas
+pub mod AlikeLemmas

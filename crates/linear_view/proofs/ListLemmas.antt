@@ -1,5 +1,5 @@
 -- What holds of each item of a list that is made of others.
-use Rattle.std.proofs.Common.{◌≡◌, ℕ, zero, suc, ◌+◌, ◌<◌, List, [], ◌∷◌, ◌++◌, map, All, arith}
+use Rattle.std.proofs.Common.{◌≡◌, ℕ, zero, suc, ◌+◌, ◌<◌, List, [], ◌∷◌, ◌++◌, map, All, Result, Ok, Err, IfOk, arith}
 use Rattle.std.specs.List.{AllByRecursion, range_with_len}
 
 -- lists with the same first item and the same rest
@@ -18,6 +18,11 @@ pub each_append : {X : Type 0} (P : X → Type 0) (xs ys : List X) → AllByRecu
 each_append P [] ys p q = q
 each_append P (x ∷ xs) ys p q = (p.0, each_append P xs ys p.1 q)
 
+-- what holds of everything
+pub each_item : {X : Type 0} (P : X → Type 0) (xs : List X) → ((x : X) → P x) → AllByRecursion P xs
+each_item P [] h = tt
+each_item P (x ∷ xs) h = (h x, each_item P xs h)
+
 -- what holds of each image
 pub each_map : {X Y : Type 0} (P : Y → Type 0) (f : X → Y) (xs : List X) → ((x : X) → P (f x))
     → AllByRecursion P (map f xs)
@@ -29,3 +34,8 @@ pub each_range : {X : Type 0} (P : X → Type 0) (f : ℕ → X) (a n : ℕ) →
     → AllByRecursion P (map f (range_with_len a n))
 each_range P f a zero h = tt
 each_range P f a (suc n) h = (h a (omega arith), each_range P f (a + 1) n (λ k below. h k (omega arith)))
+
+-- what follows of a value, where there is one
+pub if_ok : {T E : Type 0} (r : Result T E) (P Q : T → Type 0) → ((x : T) → P x → Q x) → IfOk r P → IfOk r Q
+if_ok (Ok x) P Q f h = f x h
+if_ok (Err e) P Q f h = tt

@@ -10,13 +10,12 @@ use Rattle.std.proofs.lemmas.Nat.Bits.{shr_and_one}
 use mathlib.Core.Path.{fun_ext}
 use Rattle.span_model.specs.Columns.{Columns, empty, set_of, ◌△◌}
 use Rattle.usuba0.specs.declared.circuit.Gate.{Gate}
-use Rattle.usuba0.specs.declared.circuit.Gate.TheVariants as gate
 use Rattle.usuba0.specs.declared.circuit.Reg.{Reg}
 use Rattle.linear_view.specs.declared.column.Column.{Column}
 use Rattle.linear_view.specs.declared.column.ColumnKind.TheVariants as column
 use Rattle.linear_view.specs.Names.{bits}
 use Rattle.linear_view.specs.Rows.{RegisterRows, rows_at, row_at, rows_over}
-use Rattle.linear_view.specs.Walk.{needs, HoldsReads, HoldsNeeds}
+use Rattle.linear_view.specs.Walk.{needs, HoldsNeeds}
 
 pub get_or_of_map : {X Y : Type 0} (f : X → Y) (xs : List X) (i : ℕ) (d : X) → get_or (map f xs) i (f d) ≡ f (get_or xs i d)
 get_or_of_map f [] i d = refl
@@ -58,18 +57,6 @@ held_first names all held g a rest e h = (subst (λ (rs : List Reg). AllByRecurs
 pub held_second : (names : List Column) (all : RegisterRows) (held : List (List (List Bool))) (g : Gate) (a b : Reg) → needs g ≡ a ∷ b ∷ []
     → HoldsNeeds names all held g → IsHeld names all held b
 held_second names all held g a b e h = (subst (λ (rs : List Reg). AllByRecursion (IsHeld names all held) rs) e h).1.0
-
--- what is held of all registers that an equation reads is held of those that it needs
-pub needs_held : (names : List Column) (all : RegisterRows) (held : List (List (List Bool))) (g : Gate) → HoldsReads names all held g → HoldsNeeds names all held g
-needs_held names all held (gate.Const c) h = h
-needs_held names all held (gate.Xor a b) h = h
-needs_held names all held (gate.Not a) h = h
-needs_held names all held (gate.Mask c a) h = h
-needs_held names all held (gate.And a b) h = tt
-needs_held names all held (gate.Shl k a) h = h
-needs_held names all held (gate.Shr k a) h = h
-needs_held names all held (gate.Rotl k a) h = h
-needs_held names all held (gate.Refresh a) h = tt
 
 -- a copy of the row of a bit
 pub copied_row : (names : List Column) (all : RegisterRows) (held : List (List (List Bool))) (set : Columns Column) (a : Reg) (from n : ℕ) (row : List Bool) → n ≡ length names

@@ -140,7 +140,7 @@ each_product P names w m all (gate.Rotl k x ∷ gs) each are = each_product P na
 each_product P names w m all (gate.Refresh x ∷ gs) each are = each_product P names w (suc m) all gs
     (λ a b h k. each a b (omega arith) (omega arith)) are.1
 
-products_are : (names : List Column) (core : Circuit) → IsCore core
+pub products_are : (names : List Column) (core : Circuit) → IsCore core
     → AllByRecursion (AreOperands (length names)) (map (operands_over names) (core_products core))
 products_are names core is =
     let all = core_rows core in
@@ -149,7 +149,7 @@ products_are names core is =
     (λ a b h k. operands_are names core.width (rows_at all a) (rows_at all b) is.some_width (wide a.0 h)
     (wide b.0 k)) is.equations
 
-products_many : (names : List Column) (all : RegisterRows) (gs : List Gate) → length (map (operands_over names) (flat_map (gate_product all) gs)) ≡ products_of gs
+pub products_many : (names : List Column) (all : RegisterRows) (gs : List Gate) → length (map (operands_over names) (flat_map (gate_product all) gs)) ≡ products_of gs
 products_many names all [] = refl
 products_many names all (gate.Const c ∷ gs) = products_many names all gs
 products_many names all (gate.Xor a b ∷ gs) = products_many names all gs
@@ -217,7 +217,7 @@ small_equations w p f (g ∷ gs) wide hp hf =
     (small_gate w p f g wide (omega (arith, products_of-cons g gs, hp)) (omega (arith, refreshes_of-cons g gs, hf)))
     (small_equations w p1 f1 gs wide (omega (arith, products_of-cons g gs, hp)) (omega (arith, refreshes_of-cons g gs, hf)))
 
-small_core : (core : Circuit) → core.width ≤ 64 → core.inputs + products_of core.equations + refreshes_of core.equations ≤ 32768 → All IsSmallName (core_columns core)
+pub small_core : (core : Circuit) → core.width ≤ 64 → core.inputs + products_of core.equations + refreshes_of core.equations ≤ 32768 → All IsSmallName (core_columns core)
 small_core core wide few =
     let w = core.width in
     all_from_each IsSmallName (core_columns core)

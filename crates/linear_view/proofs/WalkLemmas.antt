@@ -1,5 +1,5 @@
 -- What the equations of a circuit read, and when.
-use Rattle.std.proofs.Common.{◌≡◌, ℕ, Bool, true, false, ltb, ◌+◌, ◌<◌, ◌≤◌, List, [], ◌∷◌, ◌++◌, length, take, get_or, Option, None, Some, IfSome, ◌⊎◌, sym, ap, ◌∙◌, subst, arith, inl, inr}
+use Rattle.std.proofs.Common.{◌≡◌, ℕ, Bool, true, false, ltb, ◌+◌, ◌<◌, ◌≤◌, List, [], ◌∷◌, ◌++◌, length, take, get_or, Option, None, Some, IfSome, ◌⊎◌, sym, ap, ◌∙◌, subst, arith, inl, inr, true≢false, if◌then◌else◌, nat_lt}
 use Rattle.std.proofs.lemmas.List.{take_more, length_push, get_or_append_left, get_or_push, get_or_past}
 use Rattle.std.proofs.lemmas.Bool.{cases_lt, cases_eq}
 use Rattle.std.proofs.lemmas.Option.{slice_get_within, get_or_from_slice_get, slice_get_cases, none-some, IfSome_then}
@@ -10,7 +10,8 @@ use Rattle.usuba0.specs.declared.circuit.Gate.{Gate}
 use Rattle.usuba0.specs.declared.circuit.Gate.TheVariants as gate
 use Rattle.usuba0.specs.declared.circuit.Reg.{Reg}
 use Rattle.usuba0.specs.Circuit.{IsEquation}
-use Rattle.linear_view.specs.Walk.{reads, AreReadLate, KeepsLater}
+use Rattle.linear_view.specs.Walk.{reads, needs, operands, takes, AreTakenLate, KeepsLater}
+use Rattle.linear_view.proofs.ListLemmas.{each_append}
 
 pub take-push : {X : Type 0} (xs : List X) (k : ℕ) (x : X) → slice_get xs k ≡ Some x → take (k + 1) xs ≡ take k xs ++ x ∷ []
 take-push xs k x e =
@@ -26,6 +27,50 @@ reads_earlier w n (gate.Shl k a) h = (h.2, tt)
 reads_earlier w n (gate.Shr k a) h = (h.2, tt)
 reads_earlier w n (gate.Rotl k a) h = (h.2, tt)
 reads_earlier w n (gate.Refresh a) h = (h, tt)
+
+pub takes_earlier : (w n : ℕ) (is_read : Bool) (g : Gate) → IsEquation w n g
+    → AllByRecursion (λ (a : Reg). a.0 < n) (takes is_read g)
+takes_earlier w n is_read (gate.And a b) h = each_append (λ (a : Reg). a.0 < n) (a ∷ b ∷ []) (if is_read then [] else [])
+    (h.0, (h.1, tt)) (none is_read)
+  where
+    none : (c : Bool) → AllByRecursion (λ (a : Reg). a.0 < n) (if c then [] else [])
+    none true = tt
+    none false = tt
+takes_earlier w n true (gate.Const c) h = tt
+takes_earlier w n true (gate.Xor a b) h = (h.0, (h.1, tt))
+takes_earlier w n true (gate.Not a) h = (h, tt)
+takes_earlier w n true (gate.Mask c a) h = (h.1, tt)
+takes_earlier w n true (gate.Shl k a) h = (h.2, tt)
+takes_earlier w n true (gate.Shr k a) h = (h.2, tt)
+takes_earlier w n true (gate.Rotl k a) h = (h.2, tt)
+takes_earlier w n true (gate.Refresh a) h = tt
+takes_earlier w n false (gate.Const c) h = tt
+takes_earlier w n false (gate.Xor a b) h = tt
+takes_earlier w n false (gate.Not a) h = tt
+takes_earlier w n false (gate.Mask c a) h = tt
+takes_earlier w n false (gate.Shl k a) h = tt
+takes_earlier w n false (gate.Shr k a) h = tt
+takes_earlier w n false (gate.Rotl k a) h = tt
+takes_earlier w n false (gate.Refresh a) h = tt
+
+first_of_both : {X : Type 0} (P : X → Type 0) (xs ys : List X) → AllByRecursion P (xs ++ ys) → AllByRecursion P xs
+first_of_both P [] ys h = tt
+first_of_both P (x ∷ xs) ys h = (h.0, first_of_both P xs ys h.1)
+
+second_of_both : {X : Type 0} (P : X → Type 0) (xs ys : List X) → AllByRecursion P (xs ++ ys) → AllByRecursion P ys
+second_of_both P [] ys h = h
+second_of_both P (x ∷ xs) ys h = second_of_both P xs ys h.1
+
+-- what holds of each register that an equation takes holds of its operands
+pub takes_operands : (P : Reg → Type 0) (is_read : Bool) (g : Gate) → AllByRecursion P (takes is_read g)
+    → AllByRecursion P (operands g)
+takes_operands P is_read g h = first_of_both P (operands g) (if is_read then needs g else []) h
+
+-- and where its own register is read, of those that it needs
+pub takes_needs : (P : Reg → Type 0) (is_read : Bool) (g : Gate) → is_read ≡ true → AllByRecursion P (takes is_read g)
+    → AllByRecursion P (needs g)
+takes_needs P true g e h = second_of_both P (operands g) (needs g) h
+takes_needs P false g e h = absurd (true≢false (sym e))
 
 pub all_weaker : {X : Type 0} (P Q : X → Type 0) (xs : List X) → ((x : X) → P x → Q x) → AllByRecursion P xs → AllByRecursion Q xs
 all_weaker P Q [] f h = tt
@@ -47,9 +92,13 @@ second_of_all P first None h = tt
 second_of_all P None (Some b) h = h.0
 second_of_all P (Some a) (Some b) h = h.1.0
 
-pub late_rises : (old new : List ℕ) (k : ℕ) (g : Gate) → ((r : ℕ) → get_or old r 0 ≤ get_or new r 0) → AreReadLate old k g → AreReadLate new k g
-late_rises old new k g rises late =
-    all_weaker (λ (a : Reg). k ≤ get_or old a.0 0) (λ (a : Reg). k ≤ get_or new a.0 0) (reads g) (λ a h. omega (arith, rises a.0)) late
+-- numbers that rise, where that of the equation's own register stays
+pub late_rises : (old new : List ℕ) (r k : ℕ) (g : Gate) → ((i : ℕ) → get_or old i 0 ≤ get_or new i 0)
+    → get_or new r 0 ≡ get_or old r 0 → AreTakenLate old r k g → AreTakenLate new r k g
+late_rises old new r k g rises same late =
+    subst (λ (m : ℕ). AllByRecursion (λ (a : Reg). k ≤ get_or new a.0 0) (takes (nat_lt k m) g)) (sym same)
+    (all_weaker (λ (a : Reg). k ≤ get_or old a.0 0) (λ (a : Reg). k ≤ get_or new a.0 0) (takes (nat_lt k (get_or old r 0)) g)
+    (λ a h. omega (arith, rises a.0, h)) late)
 
 pub keeps_then : {last : List ℕ} {k : ℕ} {old mid new : List (List (List Bool))} → KeepsLater last k old mid → KeepsLater last k mid new → KeepsLater last k old new
 keeps_then a b = record { count = b.count ∙ a.count; later = λ r h. b.later r h ∙ a.later r h }
@@ -60,26 +109,39 @@ keeps_is {last} {k} {old} {other} {new} e h = subst (λ (l : List (List (List Bo
 pub past_none : {X : Type 0} (xs : List X) (i : ℕ) → None ≡ slice_get xs i → length xs ≤ i
 past_none xs i e = elim (slice_get_cases xs i).1 as (λ _. length xs ≤ i) [ inl there ↦ absurd (none-some there.0 (e ∙ there.2)) | inr past ↦ past.0 ]
 
--- the last reads after one more equation
-pub late_more : (gs : List Gate) (k : ℕ) (d : Gate) (old mid new : List ℕ) (first second : Option Reg)
-    → ((j : ℕ) (g : Gate) → j < k → slice_get gs j ≡ Some g → AreReadLate old j g)
+-- the last reads after the equation before those that were seen
+pub late_more : (gs : List Gate) (n k : ℕ) (d : Gate) (old mid new : List ℕ) (first second : Option Reg)
+    → ((j : ℕ) (g : Gate) → k + 1 ≤ j → slice_get gs j ≡ Some g → AreTakenLate old (n + j) j g)
     → ((r : ℕ) → get_or old r 0 ≤ get_or mid r 0) → ((r : ℕ) → get_or mid r 0 ≤ get_or new r 0)
-    → option_to_list first ++ option_to_list second ≡ reads (get_or gs k d)
+    → ((r : ℕ) → IfSome first (λ (a : Reg). a.0 < r) → get_or mid r 0 ≡ get_or old r 0)
+    → ((r : ℕ) → IfSome second (λ (a : Reg). a.0 < r) → get_or new r 0 ≡ get_or mid r 0)
+    → AllByRecursion (λ (a : Reg). a.0 < n + k) (option_to_list first ++ option_to_list second)
+    → option_to_list first ++ option_to_list second ≡ takes (nat_lt k (get_or old (n + k) 0)) (get_or gs k d)
     → IfSome first (λ (a : Reg). k ≤ get_or mid a.0 0) → IfSome second (λ (a : Reg). k ≤ get_or new a.0 0)
-    → (j : ℕ) (g : Gate) → j < k + 1 → slice_get gs j ≡ Some g → AreReadLate new j g
-late_more gs k d old mid new first second late rise more both p q j g below there =
-    elim (cases j k below) as (λ _. AreReadLate new j g) [
-      | inl h ↦ late_rises mid new j g more (late_rises old mid j g rise (late j g h there))
-      | inr same ↦
-          let read : get_or gs k d ≡ g = get_or_from_slice_get gs k g d (ap (slice_get gs) (sym same) ∙ there) in
-          let at_k : AreReadLate new k (get_or gs k d) =
-          subst (λ (rs : List Reg). AllByRecursion (λ (a : Reg). k ≤ get_or new a.0 0) rs) both
-          (all_of_two (λ (a : Reg). k ≤ get_or new a.0 0) first second (IfSome_then first p (λ a h. omega (arith, h, more a.0))) q) in
-          subst (λ (m : ℕ). AreReadLate new m g) (sym same) (subst (λ (gate : Gate). AreReadLate new k gate) read at_k)
+    → (j : ℕ) (g : Gate) → k ≤ j → slice_get gs j ≡ Some g → AreTakenLate new (n + j) j g
+late_more gs n k d old mid new first second late rise more one other earlier both p q j g from there =
+    elim (cases j k from) as (λ _. AreTakenLate new (n + j) j g) [
+      | inl h ↦
+          late_rises old new (n + j) j g (λ r. omega (arith, rise r, more r)) (same (n + j) (omega (arith, h))) (late j g h there)
+      | inr here ↦
+          let read : get_or gs k d ≡ g = get_or_from_slice_get gs k g d (ap (slice_get gs) (sym here) ∙ there) in
+          let marked : AllByRecursion (λ (a : Reg). k ≤ get_or new a.0 0) (option_to_list first ++ option_to_list second) =
+          all_of_two (λ (a : Reg). k ≤ get_or new a.0 0) first second (IfSome_then first p (λ a h. omega (arith, h, more a.0))) q in
+          let taken : AllByRecursion (λ (a : Reg). k ≤ get_or new a.0 0) (takes (nat_lt k (get_or old (n + k) 0)) (get_or gs k d)) =
+          subst (λ (rs : List Reg). AllByRecursion (λ (a : Reg). k ≤ get_or new a.0 0) rs) both marked in
+          let at_k : AreTakenLate new (n + k) k (get_or gs k d) =
+          subst (λ (m : ℕ). AllByRecursion (λ (a : Reg). k ≤ get_or new a.0 0) (takes (nat_lt k m) (get_or gs k d)))
+          (sym (same (n + k) (omega arith))) taken in
+          subst (λ (m : ℕ). AreTakenLate new (n + m) m g) (sym here) (subst (λ (gate : Gate). AreTakenLate new (n + k) k gate) read at_k)
     ]
   where
-    cases : (j k : ℕ) → j < k + 1 → (j < k) ⊎ (j ≡ k)
+    cases : (j k : ℕ) → k ≤ j → (k + 1 ≤ j) ⊎ (j ≡ k)
     cases j k h = grind arith
+
+    same : (r : ℕ) → n + k ≤ r → get_or new r 0 ≡ get_or old r 0
+    same r h =
+        other r (IfSome_then second (second_of_all (λ (a : Reg). a.0 < n + k) first second earlier) (λ a below. omega (arith, h, below)))
+        ∙ one r (IfSome_then first (first_of_all (λ (a : Reg). a.0 < n + k) first second earlier) (λ a below. omega (arith, h, below)))
 
 -- an answer that holds where a number is below another
 pub if_below : (a b : ℕ) (P : Type 0) → OnTrue (ltb a b) P → a < b → P

@@ -4,5 +4,8 @@ pub mod Names
 pub mod Rows
 pub mod RowsText
 pub mod AttackLaw
+pub mod NarrowView
+pub mod NarrowLaw
 pub mod CoreViewLaw
 pub mod Walk
+pub mod Alike

@@ -1,5 +1,5 @@
 -- Operands by the number of their product and their side, and their rows in a view.
-use Rattle.std.specs.Prelude.{Bool, List, [], slice_index_or}
+use Rattle.std.specs.Prelude.{ℕ, ◌+◌, ◌*◌, Bool, List, [], slice_index_or}
 use Rattle.span_model.specs.Closure.{Side as ProductSide, on_left, on_right, Step}
 use Rattle.linear_view.specs.declared.operand.Operand.{Operand}
 use Rattle.linear_view.specs.declared.operand.Side.{Side}
@@ -14,6 +14,15 @@ other_side Right = Left
 -- the operand of the same product on the other side
 abbrev pub co_operand : Operand → Operand
 co_operand operand = record { product = operand.product; side = other_side operand.side }
+
+-- the place of a side, left before right
+abbrev pub place_on : Side → ℕ
+place_on Left = 0
+place_on Right = 1
+
+-- the place of an operand among all, by product, left before right
+abbrev pub place_of : Operand → ℕ
+place_of operand = 2 * operand.product + place_on operand.side
 
 -- a side as the closure of a leak speaks of it
 abbrev pub side_of : Side → ProductSide

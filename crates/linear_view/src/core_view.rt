@@ -1,15 +1,17 @@
 //! The view of a circuit, and the rows of its registers.
-ghost use Rattle.std.specs.Prelude.{◌≡◌, ◌+◌, ◌*◌, ◌<◌, ◌≤◌, length, IfOk};
+ghost use Rattle.std.specs.Prelude.{◌≡◌, ◌+◌, ◌*◌, ◌<◌, ◌≤◌, length, map, IfOk};
 ghost use Rattle.usuba0.specs.Circuit as circuit;
 ghost use Rattle.linear_view.specs.Names.{core_columns};
-ghost use Rattle.linear_view.specs.Rows.{core_view, core_rows, rows_at, rows_over};
+ghost use Rattle.linear_view.specs.NarrowView.{IsNarrowView};
+ghost use Rattle.linear_view.specs.Rows.{core_view, core_products, core_rows, operands_over, rows_at, rows_over};
+ghost use Rattle.linear_view.specs.Walk.{TellsLastReads};
 
 use crate::column::Column;
-use crate::names::columns_of;
+use crate::names::{columns_of, needed_columns};
 use crate::rows::{input_registers, pair_of, push_register};
 use crate::seen::Seen;
 use crate::view::{Pair, View};
-use crate::walk::{Stage, last_reads};
+use crate::walk::{Stage, needed_reads};
 use gf2_span::BitRow;
 use indexmap::IndexSet;
 use std::alloc::{AllocError, Global};
@@ -24,8 +26,24 @@ pub fn view_of(alloc: Global, core: &Core) -> Result<View, AllocError>
 {
     let gates = core.equation_slice();
     let columns = columns_of(alloc, core.width(), core.inputs(), gates)?;
-    let products = product_operands(alloc, core, &columns, gates)?;
-    Ok(View::new(columns, products))
+    let last = needed_reads(alloc, core.width(), core.inputs(), gates, None)?;
+    let products = product_operands(alloc, core, &columns, gates, last.as_slice())?;
+    View::new(alloc, columns, products)
+}
+
+/// A view of the circuit over those of its columns alone that the operands of its products can hold, and those of its inputs.
+pub fn narrow_view(alloc: Global, core: &Core) -> Result<View, AllocError>
+    requires columns { (core.now.inputs + circuit.products_of core.now.equations + circuit.refreshes_of core.now.equations) * core.now.width ≤ 32768 }
+    requires registers { length core.now.equations * core.now.width ≤ 131072 }
+    ensures { IfOk result (λ view. IsNarrowView core.now view) }
+{
+    let gates = core.equation_slice();
+    let width = core.width();
+    let inputs = core.inputs();
+    let last = needed_reads(alloc, width, inputs, gates, None)?;
+    let needed = needed_columns(alloc, width, inputs, gates, last.as_slice())?;
+    let products = product_operands(alloc, core, &needed, gates, last.as_slice())?;
+    View::new(alloc, needed, products)
 }
 
 /// The rows of a register of the circuit, that of bit 0 first, over the columns of the circuit's view.
@@ -57,9 +75,8 @@ fn register_rows(
 {
     let width = core.width();
     let inputs = core.inputs();
-    let mut last = last_reads(alloc, width, inputs, gates)?;
-    last[register.0 as usize] = gates.len();
-    let mut registers = input_registers(alloc, columns, width, inputs)?;
+    let last = needed_reads(alloc, width, inputs, gates, Some(register))?;
+    let mut registers = input_registers(alloc, columns, width, inputs, last.len())?;
     let mut stage = Stage::first(width);
     for gate in gates {
         push_register(alloc, columns, stage, last.as_slice(), &mut registers, gate)?;
@@ -74,25 +91,25 @@ fn product_operands(
     core: &Core,
     columns: &IndexSet<Column>,
     gates: &[Gate],
+    last_reads: &[usize],
 ) -> Result<Vec<Pair>, AllocError>
     requires gates { gates.now ≡ core.now.equations }
-    requires columns { columns.now.keys ≡ core_columns core.now }
     requires few_inputs { core.now.inputs ≤ 32768 }
     requires few_columns { length columns.now.keys ≤ 32768 }
     requires few_gates { length gates.now ≤ 131072 }
-    ensures { IfOk result (λ products. products.items ≡ (core_view core.now).products) }
+    requires told { TellsLastReads core.now.inputs gates.now last_reads.now }
+    ensures { IfOk result (λ products. products.items ≡ map (operands_over columns.now.keys) (core_products core.now)) }
 {
     let width = core.width();
     let inputs = core.inputs();
-    let last = last_reads(alloc, width, inputs, gates)?;
-    let mut registers = input_registers(alloc, columns, width, inputs)?;
+    let mut registers = input_registers(alloc, columns, width, inputs, last_reads.len())?;
     let mut stage = Stage::first(width);
     let mut seen = Seen::new(alloc);
-    let mut products = Vec::new(alloc);
+    let mut products = Vec::with_capacity(alloc, core.products() as usize)?;
     for gate in gates {
         if let Some(pair) = pair_of(
             alloc,
-            last.as_slice(),
+            last_reads,
             stage.equations,
             &mut registers,
             &mut seen,
@@ -100,7 +117,7 @@ fn product_operands(
         )? {
             products.push(pair)?;
         }
-        push_register(alloc, columns, stage, last.as_slice(), &mut registers, gate)?;
+        push_register(alloc, columns, stage, last_reads, &mut registers, gate)?;
         stage = stage.after(gate);
     }
     Ok(products)

@@ -1,5 +1,5 @@
 ghost use Rattle.std.specs.Prelude.{◌≡◌};
-ghost use Rattle.linear_view.specs.Sides.{other_side, co_operand};
+ghost use Rattle.linear_view.specs.Sides.{other_side, co_operand, place_of};
 
 /// One of the two sides of a product.
 #[derive(Debug, Clone, Copy, PartialEq, Eq)]
@@ -35,6 +35,17 @@ impl Operand {
         Operand {
             product: self.product,
             side: self.side.other(),
+        }
+    }
+
+    /// The place of the operand among all, by product, left before right.
+    pub fn place(self) -> usize
+        ensures { result ≡ place_of self }
+    {
+        let first = 2 * self.product as usize;
+        match self.side {
+            Side::Left => first,
+            Side::Right => first + 1,
         }
     }
 }

@@ -6,7 +6,7 @@ ghost use Rattle.std.specs.Option.{option_to_list, option_copied};
 ghost use Rattle.usuba0.specs.Circuit.{IsEquation};
 ghost use Rattle.linear_view.specs.Names.{bits};
 ghost use Rattle.linear_view.specs.Rows.{RegisterRows, own_row, input_rows, gate_row, gate_rows, gate_product, rows_over, operands_over, Names};
-ghost use Rattle.linear_view.specs.Walk.{HoldsReads, HoldsNeeds, KeepsLater};
+ghost use Rattle.linear_view.specs.Walk.{HoldsOperands, HoldsNeeds, IsReadAfter, KeepsLater};
 
 use crate::column::{Column, ColumnKind};
 use crate::seen::{Seen, key_of};
@@ -20,17 +20,18 @@ use std::mem;
 use tor_edge::List;
 use usuba0::{Gate, Reg};
 
-// The rows of the inputs.
+// The rows of the inputs, with room for so many registers.
 pub(crate) fn input_registers(
     alloc: Global,
     columns: &IndexSet<Column>,
     width: u32,
     inputs: u32,
+    room: usize,
 ) -> Result<Vec<List<BitRow>>, AllocError>
     requires { length columns.now.keys < 2 ^ 32 }
     ensures { IfOk result (λ registers. registers.items ≡ map (λ i. rows_over columns.now.keys (input_rows width i)) (range_with_len 0 inputs)) }
 {
-    let mut registers = Vec::new(alloc);
+    let mut registers = Vec::with_capacity(alloc, room)?;
     for number in 0..inputs {
         registers.push(own_rows(alloc, columns, width, number)?)?;
     }
@@ -84,9 +85,11 @@ pub(crate) fn push_register(
     requires few { length columns.now.keys < 2 ^ 32 }
     requires width { stage.width ≤ 64 }
     requires gate { IsEquation stage.width (vec_len registers.old) gate.now }
-    requires held { (all : RegisterRows) × HoldsNeeds columns.now.keys all registers.old.items gate.now }
+    requires held { IsReadAfter last_reads.now (vec_len registers.old) stage.equations
+        → (all : RegisterRows) × HoldsNeeds columns.now.keys all registers.old.items gate.now }
     requires known { vec_len registers.old < length last_reads.now }
-    ensures { OnOk result ((all : RegisterRows) → HoldsNeeds columns.now.keys all registers.old.items gate.now
+    ensures { OnOk result ((all : RegisterRows)
+        → (IsReadAfter last_reads.now (vec_len registers.old) stage.equations → HoldsNeeds columns.now.keys all registers.old.items gate.now)
         → let made = rows_over columns.now.keys (gate_rows stage.width stage.products stage.refreshes all gate.now) in
         KeepsLater last_reads.now stage.equations (registers.old.items ++ made ∷ []) registers.new.items) }
 {
@@ -111,7 +114,7 @@ fn rows_if_read(
     requires few { length columns.now.keys < 2 ^ 32 }
     requires width { stage.width ≤ 64 }
     requires gate { IsEquation stage.width (length registers.now) gate.now }
-    requires held { (all : RegisterRows) × HoldsNeeds columns.now.keys all registers.now gate.now }
+    requires held { OnTrue is_read ((all : RegisterRows) × HoldsNeeds columns.now.keys all registers.now gate.now) }
     ensures { IfOk result (λ rows. OnTrue is_read ((all : RegisterRows) → HoldsNeeds columns.now.keys all registers.now gate.now
         → rows ≡ rows_over columns.now.keys (gate_rows stage.width stage.products stage.refreshes all gate.now))) }
 {
@@ -270,10 +273,10 @@ pub(crate) fn pair_of(
 ) -> Result<Option<Pair>, AllocError>
     requires gate { (width : ℕ) × IsEquation width (vec_len registers.old) gate.now }
     requires known { vec_len registers.old ≤ length last_reads.now }
-    ensures pair { IfOk result (λ pair. (columns : Names) (all : RegisterRows) → HoldsReads columns all registers.old.items gate.now
+    ensures pair { IfOk result (λ pair. (columns : Names) (all : RegisterRows) → HoldsOperands columns all registers.old.items gate.now
         → option_to_list pair ≡ map (operands_over columns) (gate_product all gate.now)) }
     ensures kept { OnOk result (KeepsLater last_reads.now k registers.old.items registers.new.items) }
-    ensures needs { OnOk result ((columns : Names) (all : RegisterRows) → HoldsReads columns all registers.old.items gate.now
+    ensures needs { OnOk result ((columns : Names) (all : RegisterRows) → HoldsNeeds columns all registers.old.items gate.now
         → HoldsNeeds columns all registers.new.items gate.now) }
 {
     match *gate {
@@ -312,8 +315,8 @@ fn shared(
     if let Some(rows) = seen.find(key, held)? {
         return Ok(rows);
     }
-    let rows = SharedRows::new(alloc, taken(alloc, last_reads, k, registers, register)?)?;
-    seen.note(key, &rows)?;
+    let mut rows = SharedRows::new(alloc, taken(alloc, last_reads, k, registers, register)?)?;
+    seen.note(key, &mut rows)?;
     Ok(rows)
 }
 

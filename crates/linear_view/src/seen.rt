@@ -13,6 +13,8 @@ const FIRST_COLUMNS: u32 = 8;
 #[derive(Drop)]
 pub(crate) struct Seen {
     by_key: HashMap<u64, SharedRows>,
+    // how many were noted
+    noted: u32,
 }
 
 impl Seen {
@@ -20,6 +22,7 @@ impl Seen {
     pub(crate) fn new(alloc: Global) -> Seen {
         Seen {
             by_key: HashMap::new(alloc),
+            noted: 0,
         }
     }
 
@@ -35,8 +38,12 @@ impl Seen {
         Ok(None)
     }
 
-    // Notes rows with this key.
-    pub(crate) fn note(&mut self, key: u64, rows: &SharedRows) -> Result<(), AllocError> {
+    // Notes rows with this key, and gives them the next number.
+    pub(crate) fn note(&mut self, key: u64, rows: &mut SharedRows) -> Result<(), AllocError>
+        ensures { rows.new ≡ rows.old }
+    {
+        rows.set_number(self.noted);
+        self.noted = self.noted.saturating_add(1);
         let _before = self.by_key.insert(key, rows.share()?)?;
         Ok(())
     }
@@ -71,7 +78,8 @@ fn with_column(key: u64, column: u32) -> u64 {
         .wrapping_add(u64::from(column) + 1)
 }
 
-fn are_equal(a: &[BitRow], b: &[BitRow]) -> bool
+// Whether the rows are the same.
+pub(crate) fn are_equal(a: &[BitRow], b: &[BitRow]) -> bool
     ensures { MatchBool result (a.now ≡ b.now) (a.now ≢ b.now) }
 {
     if a.len() != b.len() {

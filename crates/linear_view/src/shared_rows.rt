@@ -10,7 +10,12 @@ use tor_edge::List;
 #[derive(Drop)]
 pub struct SharedRows {
     held: Rc<List<BitRow>, Global>,
+    // the same in all that share the rows. It is a hint to where equal rows may be, on which nothing that holds of rows depends
+    number: u32,
 }
+
+// The number of rows that were not numbered.
+const NO_NUMBER: u32 = u32::MAX;
 
 impl Model for SharedRows {
     ghost use Rattle.std.specs.Prelude.{List, Bool};
@@ -26,7 +31,10 @@ impl SharedRows {
         ensures { IfOk result (λ shared. shared ≡ rows) }
     {
         let held = Rc::new(alloc, rows)?;
-        Ok(SharedRows { held })
+        Ok(SharedRows {
+            held,
+            number: NO_NUMBER,
+        })
     }
 
     /// The same rows, of which nothing is copied.
@@ -34,7 +42,10 @@ impl SharedRows {
         ensures { IfOk result (λ shared. shared ≡ self.now) }
     {
         let held = self.held.clone()?;
-        Ok(SharedRows { held })
+        Ok(SharedRows {
+            held,
+            number: self.number,
+        })
     }
 
     pub fn as_list(&self) -> &List<BitRow>
@@ -53,5 +64,17 @@ impl SharedRows {
         ensures { result ≡ length self.now }
     {
         self.held.as_ref().len()
+    }
+
+    // The number that the rows were given.
+    pub(crate) fn number(&self) -> u32 {
+        self.number
+    }
+
+    // Gives the rows a number.
+    pub(crate) fn set_number(&mut self, number: u32)
+        ensures { self.new ≡ self.old }
+    {
+        self.number = number;
     }
 }

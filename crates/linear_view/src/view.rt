@@ -2,9 +2,10 @@ ghost use Rattle.std.specs.Prelude.{◌≡◌, ◌≢◌, ◌<◌, ◌≤◌, �
 ghost use Rattle.std.specs.Option.{option_copied, option_map};
 ghost use Rattle.span_model.specs.Columns.{sets_of};
 ghost use Rattle.span_model.specs.Closure.{operand as operand_sets, co_operand as co_operand_sets};
-ghost use Rattle.linear_view.specs.Sides.{co_operand, operand_rows, step_of};
+ghost use Rattle.linear_view.specs.Sides.{co_operand, operand_rows, rows_on, step_of};
 ghost use Rattle.linear_view.specs.View.{IsView, AreOperands, HasRows, operands_of, products_of};
 
+use crate::alike::alike_operands;
 use crate::column::Column;
 use crate::operand::{Operand, Side};
 use crate::shared_rows::SharedRows;
@@ -26,6 +27,8 @@ pub struct Pair {
 pub struct View {
     columns: IndexSet<Column>,
     products: Vec<Pair>,
+    // by place: an operand with the same rows
+    alike: Vec<Operand>,
 }
 
 impl Model for Pair {
@@ -38,12 +41,13 @@ impl Model for Pair {
 
 impl Model for View {
     ghost use Rattle.linear_view.specs.View.{LinearView, IsView};
+    ghost use Rattle.linear_view.specs.Alike.{AreAlike};
 
     ghost Value = { LinearView };
 
     ghost view = { λ view. record { columns = view.columns.keys; products = view.products.items } };
 
-    ghost invariant = { λ view. IsView (record { columns = view.columns.keys; products = view.products.items }) };
+    ghost invariant = { λ view. IsView (record { columns = view.columns.keys; products = view.products.items }) × AreAlike view.products.items view.alike.items };
 }
 
 impl Pair {
@@ -63,6 +67,16 @@ impl Pair {
         ensures { result.now ≡ self.now.right }
     {
         &self.right
+    }
+
+    // The rows of the operand on this side.
+    pub(crate) fn on(&self, side: Side) -> &SharedRows
+        ensures { result.now ≡ rows_on side self.now }
+    {
+        match side {
+            Side::Left => self.left(),
+            Side::Right => self.right(),
+        }
     }
 }
 
@@ -130,11 +144,7 @@ impl View {
         ensures sets { sets_of result.now ≡ operand_sets (products_of self.now) (step_of operand) }
         ensures columns { HasRows (length self.now.columns) result.now }
     {
-        let operands = &self.products[operand.product as usize];
-        match operand.side {
-            Side::Left => operands.left(),
-            Side::Right => operands.right(),
-        }
+        self.products[operand.product as usize].on(operand.side)
     }
 
     /// The rows of the operand on the other side of the same product.
@@ -147,12 +157,34 @@ impl View {
         self.operand(operand.other())
     }
 
-    // The view of these columns and products.
-    pub(crate) fn new(columns: IndexSet<Column>, products: Vec<Pair>) -> View
-        requires { IsView (record { columns = columns.keys; products = products.items }) }
-        ensures { result ≡ record { columns = columns.keys; products = products.items } }
+    /// An operand that is known to have the same rows, the same one for all that share them.
+    pub fn alike(&self, operand: Operand) -> Operand
+        requires { operand.product < length self.now.products }
+        ensures product { result.product < length self.now.products }
+        ensures rows { operand_rows self.now result ≡ operand_rows self.now operand }
+        ensures sets { operand_sets (products_of self.now) (step_of result) ≡ operand_sets (products_of self.now) (step_of operand) }
     {
-        View { columns, products }
+        match self.alike.get(operand.place()) {
+            Some(other) => *other,
+            None => operand,
+        }
+    }
+
+    // The view of these columns and products.
+    pub(crate) fn new(
+        alloc: Global,
+        columns: IndexSet<Column>,
+        products: Vec<Pair>,
+    ) -> Result<View, AllocError>
+        requires { IsView (record { columns = columns.keys; products = products.items }) }
+        ensures { IfOk result (λ view. view ≡ record { columns = columns.keys; products = products.items }) }
+    {
+        let alike = alike_operands(alloc, products.as_slice())?;
+        Ok(View {
+            columns,
+            products,
+            alike,
+        })
     }
 
     // The columns, in order.
@@ -185,7 +217,7 @@ pub fn view_with(
 {
     let columns = like.columns.clone()?;
     let products = pairs(alloc, left, right)?;
-    Ok(View::new(columns, products))
+    View::new(alloc, columns, products)
 }
 
 // The operands of a product.

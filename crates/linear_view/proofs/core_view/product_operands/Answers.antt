@@ -1,11 +1,10 @@
-use Rattle.std.proofs.Common.{ℕ, List, [], ◌∷◌, ◌++◌, Option, length, get_or, subst, sym, ap, ◌∙◌, arith, append-nil}
-use Rattle.std.proofs.lemmas.Option.{slice_get-get_or}
+use Rattle.std.proofs.Common.{◌++◌, Option, get_or, sym, ap, ◌∙◌, arith, append-nil}
 use Rattle.std.specs.Option.{option_to_list}
 use Rattle.usuba0.specs.declared.circuit.Gate.TheVariants as gate
 use Rattle.linear_view.specs.Rows.{gate_rows, rows_over}
 use Rattle.linear_view.specs.View.{Operands}
-use Rattle.linear_view.specs.Walk.{KeepsLater}
-use Rattle.linear_view.proofs.CoreLemmas.{all_rows, core_equations, under_way_first, under_way_next, under_way_equation, under_way_reads, under_way_counts}
+use Rattle.linear_view.specs.Walk.{IsReadAfter}
+use Rattle.linear_view.proofs.CoreLemmas.{all_rows, core_equations, under_way_first, under_way_next, under_way_equation, taken_late, under_way_operands, under_way_needs, under_way_counts}
 use Rattle.linear_view.proofs.ViewLemmas.{products_step}
 use Rattle.linear_view.proofs.WalkLemmas.{keeps_then, keeps_push}
 use Rattle.linear_view.proofs.core_view.product_operands.Goals as goal
@@ -14,9 +13,9 @@ use Rattle.linear_view.proofs.core_view.product_operands.Goals.{in-Some+in_ok-pu
 pub loop-gate-init : goal.loop-gate-init
 loop-gate-init c =
     record {
-      under_way = under_way_first c.args.columns.now.keys c.width-width.result c.inputs-inputs.result c.args.gates.now c.first-stage.result (c.in_ok-last.last.items) c.in_ok-registers.registers.items
+      under_way = under_way_first c.args.columns.now.keys c.width-width.result c.inputs-inputs.result c.args.gates.now c.first-stage.result c.args.last_reads.now c.in_ok-registers.registers.items
           c.in_ok-registers.ensures c.first-stage.ensures;
-      products = c.new-products.ensures.items;
+      products = c.in_ok-products.ensures.items;
     }
 
 pub pair_of-requires-clause-gate : goal.pair_of-requires-clause-gate
@@ -28,13 +27,13 @@ pair_of-requires-clause-gate c =
     let k = c.loop-gate.gate-index in
     let stage = c.loop-gate.stage in
     let held = c.loop-gate.registers.items in
-    let last = c.in_ok-last.last.items in
+    let last = c.args.last_reads.now in
     let are = core_equations c.args.core.now w n gs c.width-width.ensures.core c.width-width.ensures.value c.inputs-inputs.ensures c.requires.gates in
     (stage.width, under_way_equation names w n gs k c.loop-gate.registers.len (gate.Const 0) stage last held c.loop-gate-test.true are c.loop-gate.invariant.under_way (omega (arith, c.loop-gate.registers.ok.0)))
 
 pub pair_of-requires-clause-known : goal.pair_of-requires-clause-known
 pair_of-requires-clause-known c =
-    omega (arith, c.loop-gate.registers.ok.0, c.loop-gate.invariant.under_way.holds.count, c.loop-gate-test.true, c.in_ok-last.ensures.count, c.in_ok-last.last.ok.0, ap length c.as_slice.ensures.value)
+    omega (arith, c.loop-gate.registers.ok.0, c.loop-gate.invariant.under_way.holds.count, c.loop-gate-test.true, c.requires.told.count, c.inputs-inputs.ensures)
 
 pub push_register-requires-clause-gate : goal.push_register-requires-clause-gate
 push_register-requires-clause-gate c =
@@ -45,7 +44,7 @@ push_register-requires-clause-gate c =
     let k = c.loop-gate.gate-index in
     let stage = c.loop-gate.stage in
     let held = c.loop-gate.registers.items in
-    let last = c.in_ok-last.last.items in
+    let last = c.args.last_reads.now in
     let are = core_equations c.args.core.now w n gs c.width-width.ensures.core c.width-width.ensures.value c.inputs-inputs.ensures c.requires.gates in
     under_way_equation names w n gs k c.pair_of.new.registers.len (gate.Const 0) stage last held c.loop-gate-test.true are c.loop-gate.invariant.under_way
     (omega (arith, c.pair_of.new.registers.ok.0, c.in_ok-pair.ensures.kept.count))
@@ -59,18 +58,23 @@ push_register-requires-clause-held c =
     let k = c.loop-gate.gate-index in
     let stage = c.loop-gate.stage in
     let held = c.loop-gate.registers.items in
-    let last = c.in_ok-last.last.items in
+    let last = c.args.last_reads.now in
     let are = core_equations c.args.core.now w n gs c.width-width.ensures.core c.width-width.ensures.value c.inputs-inputs.ensures c.requires.gates in
-    let late = c.in_ok-last.ensures.late k (get_or gs k (gate.Const 0)) (slice_get-get_or gs k (gate.Const 0) c.loop-gate-test.true) in
-    (all_rows w n gs, c.in_ok-pair.ensures.needs names (all_rows w n gs) (under_way_reads names w n gs k (gate.Const 0) stage last held c.loop-gate-test.true are late c.loop-gate.invariant.under_way))
+    let late = taken_late c.args.core.now.inputs n k gs (gate.Const 0) last c.inputs-inputs.ensures c.requires.told c.loop-gate-test.true in
+    λ read. (
+      all_rows w n gs,
+      c.in_ok-pair.ensures.needs names (all_rows w n gs)
+          (under_way_needs names w n gs k c.pair_of.new.registers.len (gate.Const 0) stage last held c.loop-gate-test.true are late
+          c.loop-gate.invariant.under_way (omega (arith, c.pair_of.new.registers.ok.0, c.in_ok-pair.ensures.kept.count)) read),
+    )
 
 pub after-stage-requires-clause-products : goal.after-stage-requires-clause-products
 after-stage-requires-clause-products c =
-    omega (arith, (under_way_counts c.args.columns.now.keys c.width-width.result c.inputs-inputs.result c.args.gates.now c.loop-gate.gate-index c.loop-gate.stage (c.in_ok-last.last.items) c.loop-gate.registers.items c.loop-gate-test.true c.loop-gate.invariant.under_way).0, c.loop-gate-test.true, c.requires.few_gates)
+    omega (arith, (under_way_counts c.args.columns.now.keys c.width-width.result c.inputs-inputs.result c.args.gates.now c.loop-gate.gate-index c.loop-gate.stage c.args.last_reads.now c.loop-gate.registers.items c.loop-gate-test.true c.loop-gate.invariant.under_way).0, c.loop-gate-test.true, c.requires.few_gates)
 
 pub after-stage-requires-clause-refreshes : goal.after-stage-requires-clause-refreshes
 after-stage-requires-clause-refreshes c =
-    omega (arith, (under_way_counts c.args.columns.now.keys c.width-width.result c.inputs-inputs.result c.args.gates.now c.loop-gate.gate-index c.loop-gate.stage (c.in_ok-last.last.items) c.loop-gate.registers.items c.loop-gate-test.true c.loop-gate.invariant.under_way).1, c.loop-gate-test.true, c.requires.few_gates)
+    omega (arith, (under_way_counts c.args.columns.now.keys c.width-width.result c.inputs-inputs.result c.args.gates.now c.loop-gate.gate-index c.loop-gate.stage c.args.last_reads.now c.loop-gate.registers.items c.loop-gate-test.true c.loop-gate.invariant.under_way).1, c.loop-gate-test.true, c.requires.few_gates)
 
 pub loop-gate-preserved : goal.loop-gate-preserved
 loop-gate-preserved c =
@@ -81,17 +85,18 @@ loop-gate-preserved c =
     let k = c.loop-gate.gate-index in
     let stage = c.loop-gate.stage in
     let held = c.loop-gate.registers.items in
-    let last = c.in_ok-last.last.items in
+    let last = c.args.last_reads.now in
     let are = core_equations c.args.core.now w n gs c.width-width.ensures.core c.width-width.ensures.value c.inputs-inputs.ensures c.requires.gates in
     let all = all_rows w n gs in
-    let late = c.in_ok-last.ensures.late k (get_or gs k (gate.Const 0)) (slice_get-get_or gs k (gate.Const 0) c.loop-gate-test.true) in
-    let read = under_way_reads names w n gs k (gate.Const 0) stage last held c.loop-gate-test.true are late c.loop-gate.invariant.under_way in
+    let late = taken_late c.args.core.now.inputs n k gs (gate.Const 0) last c.inputs-inputs.ensures c.requires.told c.loop-gate-test.true in
+    let operands = under_way_operands names w n gs k (gate.Const 0) stage last held c.loop-gate-test.true are late c.loop-gate.invariant.under_way in
+    let needs = λ (read : IsReadAfter last c.pair_of.new.registers.len stage.equations). c.in_ok-pair.ensures.needs names all
+    (under_way_needs names w n gs k c.pair_of.new.registers.len (gate.Const 0) stage last held c.loop-gate-test.true are late
+    c.loop-gate.invariant.under_way (omega (arith, c.pair_of.new.registers.ok.0, c.in_ok-pair.ensures.kept.count)) read) in
     let made = rows_over names (gate_rows stage.width stage.products stage.refreshes all (get_or gs k (gate.Const 0))) in
-    let taken = subst (λ (l : List ℕ). KeepsLater l stage.equations held c.pair_of.new.registers.items) c.as_slice.ensures.value c.in_ok-pair.ensures.kept in
-    let pushed = subst (λ (l : List ℕ). KeepsLater l stage.equations (c.pair_of.new.registers.items ++ made ∷ []) c.push_register.new.registers.items)
-    c.as_slice-in-loop-gate.ensures.value (c.in_ok-push_register.ensures all (c.in_ok-pair.ensures.needs names all read)) in
+    let pushed = c.in_ok-push_register.ensures all needs in
     let next = under_way_next names w n gs k (gate.Const 0) stage c.after-stage.result last held c.push_register.new.registers.items c.loop-gate-test.true are c.loop-gate.invariant.under_way
-    (keeps_then (keeps_push made taken) pushed) c.after-stage.ensures in
+    (keeps_then (keeps_push made c.in_ok-pair.ensures.kept) pushed) c.after-stage.ensures in
     let old = c.loop-gate.products.items in
     record {
       under_way = next;
@@ -103,5 +108,5 @@ loop-gate-preserved c =
             | in_default v ↦
                 ap (λ p. p.items) v.products-is ∙ sym (append-nil old) ∙ ap (λ (found : Option Operands). old ++ option_to_list found) (sym v.in_default.is)
           ])
-          (c.in_ok-pair.ensures.pair names all read);
+          (c.in_ok-pair.ensures.pair names all operands);
     }

@@ -6,18 +6,10 @@ use Rattle.usuba0.specs.declared.circuit.Gate.TheVariants as gate
 use Rattle.usuba0.specs.Circuit.{products_of, refreshes_of}
 use Rattle.usuba0.proofs.CircuitLemmas.{counts_le}
 use Rattle.linear_view.specs.declared.column.Column.{Column}
-use Rattle.linear_view.specs.declared.column.ColumnKind.TheVariants.{Input, Product, Refresh}
+use Rattle.linear_view.specs.declared.column.ColumnKind.TheVariants.{Product, Refresh}
 use Rattle.linear_view.specs.Names.{same_column, input_columns, equation_columns}
-use Rattle.linear_view.proofs.ColumnLemmas.{new_input, no_input, new_product, new_refresh, absent-append, input_columns-more, columns_step, products_of-more, refreshes_of-more}
+use Rattle.linear_view.proofs.ColumnLemmas.{no_input, new_product, new_refresh, absent-append, columns_step, products_of-more, refreshes_of-more}
 use Rattle.linear_view.proofs.names.columns_of.Goals as goal
-
-pub add_columns-requires : goal.add_columns-requires
-add_columns-requires c bit =
-    let name : Column = record { kind = Input; number = c.loop-number.number; bit = bit } in
-    ap (list_any (same_column name)) c.loop-number.invariant ∙ new_input c.args.width c.loop-number.number bit
-
-pub loop-number-preserved : goal.loop-number-preserved
-loop-number-preserved c = input_columns-more c.args.width c.loop-number.number _ _ c.loop-number.invariant c.in_ok-add_columns.ensures
 
 pub add_gate_columns-requires-clause-product : goal.add_gate_columns-requires-clause-product
 add_gate_columns-requires-clause-product c bit =

@@ -3,10 +3,6 @@ use Rattle.usuba0.specs.Circuit.{products_of, refreshes_of}
 use Rattle.linear_view.specs.Names.{input_columns, equation_columns}
 use Rattle.linear_view.proofs.names.columns_of.Given as goal
 
-abbrev pub invariant-loop-number : goal.invariant-loop-number
-invariant-loop-number l =
-    l.columns.keys ≡ input_columns l.width l.number
-
 abbrev pub invariant-loop-gate : goal.invariant-loop-gate
 invariant-loop-gate l =
     record {

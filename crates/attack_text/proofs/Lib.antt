@@ -5,3 +5,4 @@ pub mod EndLemmas
 pub mod RoundLemmas
 pub mod FormBackLemmas
 pub mod SpelledLemmas
+pub mod NarrowLemmas

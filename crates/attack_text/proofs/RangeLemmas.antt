@@ -1,10 +1,8 @@
 -- An attack that a text spells is in range.
-use Rattle.std.proofs.Common.{◌≡◌, ℕ, suc, ◌+◌, ◌<◌, ◌≤◌, Bool, true, false, ltb, leb, if◌then◌else◌, List, [], ◌∷◌, ◌++◌, length, Option, None, Some, unwrap_or, Result, Ok, Err, refl, sym, ap, ◌∙◌, subst, inl, inr, arith, length-append}
+use Rattle.std.proofs.Common.{◌≡◌, ℕ, suc, ◌+◌, ◌<◌, ◌≤◌, Bool, true, false, ltb, leb, if◌then◌else◌, List, [], ◌∷◌, ◌++◌, length, Option, None, Some, Result, Ok, Err, refl, sym, ap, ◌∙◌, subst, inl, inr, arith, length-append}
 use Rattle.std.specs.List.{list_all}
-use Rattle.std.specs.Option.{option_map}
 use Rattle.std.proofs.lemmas.Bool.{cases_Bool, and_parts, and_from, ltb-true, ltb-false}
 use Rattle.linear_view.specs.View.{LinearView}
-use Rattle.linear_view.specs.declared.column.Column.{Column}
 use Rattle.attack_text.specs.Forms.{leak_form, steps_form, step_form, root_form, listing_form, probe_form}
 use Rattle.attack_text.specs.Ranges.{is_steps_count, is_step, is_probe}
 use Rattle.attack_text.proofs.TestLemmas.{are_steps, is_listed, PassesTests, tests_in_range}

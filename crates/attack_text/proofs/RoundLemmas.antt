@@ -1,10 +1,9 @@
 -- What is written of an attack is read as the same attack.
-use Rattle.std.proofs.Common.{◌≡◌, ℕ, suc, ◌+◌, ◌*◌, ◌^◌, ◌<◌, ◌≤◌, Bool, true, false, ltb, leb, eqb, not, ◌&&◌, List, [], ◌∷◌, ◌++◌, length, map, All, Option, None, Some, is_some, Result, Ok, Err, refl, sym, ap, ◌∙◌, subst, inl, inr, arith, append_assoc, append-nil, length-append, slice_get, codes, decimal}
+use Rattle.std.proofs.Common.{◌≡◌, ℕ, suc, ◌+◌, ◌*◌, ◌^◌, ◌<◌, ◌≤◌, Bool, true, false, ltb, leb, eqb, ◌&&◌, List, [], ◌∷◌, ◌++◌, length, map, Option, None, Some, Result, Ok, Err, refl, sym, ap, ◌∙◌, subst, inl, inr, arith, append_assoc, append-nil, length-append, codes, decimal}
 use Rattle.std.specs.Char.{is_ascii_digit}
-use Rattle.std.specs.List.{slice_split, list_all}
-use Rattle.std.specs.Option.{option_map}
+use Rattle.std.specs.List.{list_all}
 use Rattle.std.specs.Str.{bytes_eq}
-use Rattle.std.proofs.lemmas.Bool.{true≢false, false≢true, cases_Bool, and_parts, and_from, cond-true, cond-false, ltb-true, leb-true, lt-ltb, le-ltb, eq-eqb, ne_eqb, eqb-true, not_from_false}
+use Rattle.std.proofs.lemmas.Bool.{true≢false, cases_Bool, and_parts, and_from, cond-true, cond-false, ltb-true, leb-true, lt-ltb, le-ltb, eq-eqb}
 use Rattle.std.proofs.lemmas.Slice.Eq.{bytes_eq-Decides}
 use Rattle.linear_view.specs.View.{LinearView, IsView}
 use Rattle.attack_text.specs.AttackText.{side_word, core_words, step_words, steps_text, steps_count_text, counted_steps_text, root_text, probe_words, probes_text, listing_text, leak_text, head_text, body_text, attack_text, first_version_text}
@@ -15,7 +14,7 @@ use Rattle.attack_model.specs.Derivations.{are_uses}
 use Rattle.attack_model.specs.Ranges.{InRange}
 use Rattle.attack_model.specs.declared.attack.TheConstants.{MAX_PROBES}
 use Rattle.column_lists.specs.Names.{are_columns}
-use Rattle.column_lists.specs.Rows.{column_words, named_row}
+use Rattle.column_lists.specs.Rows.{column_words}
 use Rattle.column_lists.proofs.ReadLemmas.{Differ, AreSmall, row_back, row_columns, row_plain}
 use Rattle.attack_text.specs.Reading.{SoFar, nothing, second, opened, with_leak, with_steps, with_root, with_probes, with_large, said_in_range, counts_of_view, leak_in_order, leak_at, with_listing, added, unless_fault, attack_from, after_line, is_listing, attack_of}
 use Rattle.attack_model.specs.declared.attack.Attack.{Attack}

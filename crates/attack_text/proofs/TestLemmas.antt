@@ -1,11 +1,11 @@
 -- An attack is in range where its lines pass the tests of their ranges.
-use Rattle.std.proofs.Common.{◌≡◌, ℕ, zero, suc, ◌+◌, ◌*◌, ◌<◌, ◌≤◌, Bool, true, ltb, leb, ◌&&◌, List, [], ◌∷◌, length, get_or, refl, ap, subst, sym, arith}
+use Rattle.std.proofs.Common.{◌≡◌, ℕ, zero, suc, ◌+◌, ◌*◌, ◌<◌, Bool, true, ltb, leb, ◌&&◌, List, [], ◌∷◌, length, refl, subst, arith}
 use Rattle.std.specs.List.{All, list_all}
 use Rattle.std.proofs.lemmas.Bool.{and_parts, and_from, ltb-true, leb-true, lt-ltb, le-leb}
 use Rattle.std.proofs.lemmas.List.Elements.{All-cons}
 use Rattle.span_model.specs.Attack.{IsProbe}
 use Rattle.linear_view.specs.View.{LinearView}
-use Rattle.attack_model.specs.Derivations.{step_at, are_uses, IsInOrder}
+use Rattle.attack_model.specs.Derivations.{step_at, are_uses}
 use Rattle.attack_model.specs.Ranges.{probe_of, IsListing, InRange}
 use Rattle.attack_model.specs.declared.attack.Attack.{Attack}
 use Rattle.attack_model.specs.declared.attack.Listing.{Listing}

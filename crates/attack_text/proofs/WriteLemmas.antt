@@ -1,12 +1,12 @@
 -- The texts of the parts of an attack, joined.
-use Rattle.std.proofs.Common.{◌≡◌, ℕ, suc, ◌+◌, ◌<◌, ◌≤◌, Bool, true, false, List, [], ◌∷◌, ◌++◌, length, get_or, take, drop, map, refl, sym, ap, ◌∙◌, arith, append_assoc, append-nil, add-one, drop-cons, codes, decimal, flat_map, Option, None, Some, slice_get, option_to_list}
+use Rattle.std.proofs.Common.{◌≡◌, ℕ, suc, ◌+◌, ◌<◌, Bool, List, [], ◌∷◌, ◌++◌, length, get_or, take, drop, map, refl, sym, ap, ◌∙◌, arith, append_assoc, append-nil, add-one, drop-cons, codes, decimal, flat_map}
 use Rattle.std.proofs.lemmas.List.{take_more, take-append-drop, length-take-le}
 use Rattle.linear_view.specs.RowsText.{row_text}
 use Rattle.linear_view.specs.View.{LinearView}
 use Rattle.linear_view.specs.declared.column.Column.{Column}
 use Rattle.column_lists.specs.Rows.{column_words}
 use Rattle.column_lists.proofs.ReadLemmas.{spaced_words}
-use Rattle.attack_text.specs.AttackText.{side_word, step_words, steps_text, counted_steps_text, head_text, leak_text, root_text, listing_text, attack_text}
+use Rattle.attack_text.specs.AttackText.{side_word, step_words, steps_text, counted_steps_text, head_text, leak_text, root_text, listing_text, attack_text_among}
 use Rattle.attack_model.specs.declared.attack.Attack.{Attack}
 use Rattle.attack_model.specs.declared.attack.Step.{Step}
 use Rattle.text_lines.specs.Words.{line_text, spaced}
@@ -107,11 +107,15 @@ leak_is columns leak =
     ∙ sym (append_assoc (codes "leak") (spaced (column_words columns leak)) (codes "\n"))
 
 -- the parts of the text
-pub attack_text_parts : (view : LinearView) (attack : Attack) (c p : ℕ) (steps : List Step) (uses : List ℕ) → c ≡ length view.columns → p ≡ length view.products
-    → steps ≡ attack.derivation.steps → uses ≡ attack.derivation.root
-    → head_text c p ++ (leak_text view.columns attack.derivation.leak ++ (counted_steps_text steps ++ (root_text uses ++ listing_text attack.listing))) ≡ attack_text view attack
-attack_text_parts view attack c p steps uses ec ep es eu =
-    ap (λ (n : ℕ). head_text n p ++ (leak_text view.columns attack.derivation.leak ++ (counted_steps_text steps ++ (root_text uses ++ listing_text attack.listing)))) ec
-    ∙ ap (λ (n : ℕ). head_text (length view.columns) n ++ (leak_text view.columns attack.derivation.leak ++ (counted_steps_text steps ++ (root_text uses ++ listing_text attack.listing)))) ep
-    ∙ ap (λ (x : List Step). head_text (length view.columns) (length view.products) ++ (leak_text view.columns attack.derivation.leak ++ (counted_steps_text x ++ (root_text uses ++ listing_text attack.listing)))) es
-    ∙ ap (λ (x : List ℕ). head_text (length view.columns) (length view.products) ++ (leak_text view.columns attack.derivation.leak ++ (counted_steps_text attack.derivation.steps ++ (root_text x ++ listing_text attack.listing)))) eu
+pub text_parts : (columns : ℕ) (view : LinearView) (attack : Attack) (p : ℕ) (steps : List Step) (uses : List ℕ)
+    → p ≡ length view.products → steps ≡ attack.derivation.steps → uses ≡ attack.derivation.root
+    → head_text columns p ++ (leak_text view.columns attack.derivation.leak
+    ++ (counted_steps_text steps ++ (root_text uses ++ listing_text attack.listing)))
+    ≡ attack_text_among columns view attack
+text_parts columns view attack p steps uses ep es eu =
+    let text : ℕ → List Step → List ℕ → List ℕ =
+    λ n these root. head_text columns n ++ (leak_text view.columns attack.derivation.leak
+    ++ (counted_steps_text these ++ (root_text root ++ listing_text attack.listing))) in
+    ap (λ (n : ℕ). text n steps uses) ep
+    ∙ ap (λ (these : List Step). text (length view.products) these uses) es
+    ∙ ap (λ (root : List ℕ). text (length view.products) attack.derivation.steps root) eu

@@ -1,5 +1,5 @@
 -- How an attack is written: lines of words.
-use Rattle.std.specs.Prelude.{ℕ, suc, List, [], ◌∷◌, ◌++◌, Bool, true, false, codes, decimal, flat_map, map, length}
+use Rattle.std.specs.Prelude.{ℕ, suc, List, [], ◌∷◌, ◌++◌, Bool, codes, decimal, flat_map, map, length}
 use Rattle.column_lists.specs.Rows.{column_words}
 use Rattle.linear_view.specs.View.{LinearView}
 use Rattle.linear_view.specs.declared.column.Column.{Column}
@@ -74,9 +74,13 @@ body_text view attack =
 abbrev pub head_text : (columns products : ℕ) → List ℕ
 head_text columns products = line_text (codes "attack" ∷ codes "2" ∷ []) ++ line_text (core_words columns products)
 
--- the text of an attack on the circuit of a view, in version 2
+-- the text of an attack on a circuit that has so many columns, of which the view may have only some, in version 2
+abbrev pub attack_text_among : ℕ → LinearView → Attack → List ℕ
+attack_text_among columns view attack = head_text columns (length view.products) ++ body_text view attack
+
+-- the text of an attack on the circuit of a view that has all its columns, in version 2
 abbrev pub attack_text : LinearView → Attack → List ℕ
-attack_text view attack = head_text (length view.columns) (length view.products) ++ body_text view attack
+attack_text view attack = attack_text_among (length view.columns) view attack
 
 -- the text of the same attack in version 1: one line stands for the first two
 abbrev pub first_version_text : LinearView → Attack → List ℕ

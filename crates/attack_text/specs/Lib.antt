@@ -3,3 +3,4 @@ pub mod Forms
 pub mod Ranges
 pub mod Reading
 pub mod Parts
+pub mod NarrowTextLaw

@@ -3,7 +3,6 @@ use Rattle.std.specs.Prelude.{◌≡◌, ℕ, ◌+◌, ◌^◌, ◌==◌, Bool, 
 use Rattle.linear_view.specs.View.{LinearView}
 use Rattle.attack_model.specs.declared.attack.Attack.{Attack}
 use Rattle.attack_model.specs.declared.attack.Derivation.{Derivation}
-use Rattle.attack_model.specs.declared.attack.Listing.{Listing}
 use Rattle.attack_model.specs.declared.attack.Listing.TheVariants.{Probes, Large}
 use Rattle.attack_model.specs.declared.attack.Probe.{Probe}
 use Rattle.attack_model.specs.declared.attack.Step.{Step}

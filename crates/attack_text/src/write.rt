@@ -13,7 +13,20 @@ pub fn write_attack<S: Sink>(view: &View, attack: &Attack, sink: &mut S) -> Resu
     requires { length attack.now.derivation.leak ≡ length view.now.columns }
     ensures { Wrote S.faults S.written sink.old sink.new (text.attack_text view.now attack.now) result }
 {
-    put_head(sink, view.columns(), view.products())?;
+    write_attack_among(view.columns(), view, attack, sink)
+}
+
+/// Writes an attack on a circuit that has so many columns, of which the view may have only some.
+pub fn write_attack_among<S: Sink>(
+    columns: u32,
+    view: &View,
+    attack: &Attack,
+    sink: &mut S,
+) -> Result<(), PutFault>
+    requires { length attack.now.derivation.leak ≡ length view.now.columns }
+    ensures { Wrote S.faults S.written sink.old sink.new (text.attack_text_among columns view.now attack.now) result }
+{
+    put_head(sink, columns, view.products())?;
     put_leak(sink, view, &attack.derivation.leak)?;
     put_steps(sink, attack.derivation.steps.as_slice())?;
     put_root(sink, attack.derivation.root.as_slice())?;

@@ -1,4 +1,4 @@
-use Rattle.std.proofs.Common.{◌++◌, codes, sym}
+use Rattle.std.proofs.Common.{◌++◌, codes}
 use Rattle.tor_edge.proofs.Writing.{Wrote-is, Wrote-then, Wrote-stops}
 use Rattle.linear_view.specs.RowsText.{row_text}
 use Rattle.attack_text.proofs.WriteLemmas.{leak_is}

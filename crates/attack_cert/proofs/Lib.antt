@@ -2,6 +2,7 @@
 pub mod Those
 pub mod Sums
 pub mod Counting
+pub mod Leads
 pub mod Levelling
 pub mod Supporting
 pub mod Picks
@@ -15,3 +16,4 @@ pub mod Sameness
 pub mod Existing
 pub mod Consequences
 pub mod Attacks
+pub mod RenamingLemmas

@@ -21,7 +21,3 @@ place_below kept k x n h e below =
 -- places among others are below what these are below
 pub places_below : (places uses : List ℕ) (n : ℕ) → All (Contains places) uses → All (λ p. p < n) places → All (λ p. p < n) uses
 places_below places uses n kept below k d h = All-contains (λ p. p < n) places (get_or uses k d) below (kept k d h)
-
-pub if_ok : {T E : Type 0} (r : Result T E) (P Q : T → Type 0) → ((x : T) → P x → Q x) → IfOk r P → IfOk r Q
-if_ok (Ok x) P Q f h = f x h
-if_ok (Err e) P Q f h = tt

@@ -1,7 +1,8 @@
 -- The laws of derivations.
-use Rattle.std.specs.Prelude.{◌≡◌, ◌<◌, ◌≤◌, ◌*◌, ℕ, List, length, All, Ok}
+use Rattle.std.specs.Prelude.{◌≡◌, ◌<◌, ◌≤◌, ◌*◌, ℕ, List, length, All, Option, Ok}
 use Rattle.span_model.specs.Columns.{Columns, set_of}
 use Rattle.span_model.specs.Attack.{Product, IsLeak}
+use Rattle.span_model.specs.Renaming.{named_in, renamed}
 use Rattle.linear_view.specs.View.{LinearView, IsView, products_of}
 use Rattle.attack_text.specs.AttackText.{attack_text}
 use Rattle.attack_model.specs.Ranges.{InRange}
@@ -44,3 +45,11 @@ pub record DerivedAttacksHold : Type 0 where
   pub in_range : (view : LinearView) (attack : Attack) → IsDerivedAttack view attack → InRange view attack
   pub holds : (view : LinearView) (attack : Attack) → IsDerivedAttack view attack → Holds view attack
   pub read_back : (view : LinearView) (attack : Attack) → IsView view → IsDerivedAttack view attack → attack_of view (attack_text view attack) ≡ Ok attack
+
+-- products whose columns only have other names have the same derivations
+abbrev pub RenamingKeepsDerivations : (C D : Type 0) → Type 0
+RenamingKeepsDerivations C D =
+    (name : D → Option C) (back : C → Option D) (products : List (Product C)) (others : List (Product D))
+    → renamed name products ≡ others → renamed back others ≡ products
+    → (leak : Columns C) (steps : List Step) (root : List ℕ) → IsDerivation products leak steps root
+    → IsDerivation others (named_in name leak) steps root

@@ -1,4 +1,4 @@
-ghost use Rattle.attack_cert.specs.DerivationLaws.{DerivationsHold, DerivedAttacksHold};
+ghost use Rattle.attack_cert.specs.DerivationLaws.{DerivationsHold, DerivedAttacksHold, RenamingKeepsDerivations};
 
 use attack_probes::unfolding_is_attack;
 use attack_text::written_is_read;
@@ -19,3 +19,8 @@ pub fn derived_attacks_hold()
     unfolding_is_attack::<u32>();
     written_is_read();
 }
+
+/// The derivations of a leak stay where columns only get other names.
+pub fn renaming_keeps_derivations<C, D>()
+    ensures { RenamingKeepsDerivations C D }
+{}

@@ -1,14 +1,15 @@
 // The steps of a leak, level by level.
 ghost use Rattle.std.specs.Bool.{MatchBool, OnTrue};
-ghost use Rattle.std.specs.Prelude.{slice_index_or, ◌≡◌, ◌≢◌, ◌<◌, ◌≤◌, ◌*◌, ◌^◌, ℕ, ◌++◌, ◌∷◌, [], length, map, All, IfOk, OnOk, IfSome, MatchOption};
+ghost use Rattle.std.specs.Prelude.{slice_index_or, List, ◌≡◌, ◌≢◌, ◌<◌, ◌≤◌, ◌*◌, ◌^◌, ℕ, ◌++◌, ◌∷◌, [], length, map, All, IfOk, OnOk, IfSome, MatchOption};
 ghost use Rattle.span_model.specs.Columns.{Columns, set_of, sets_of, empty, ◌△◌};
 ghost use Rattle.span_model.specs.Span.{InSpan, SameSpan};
-ghost use Rattle.span_model.specs.Closure.{co_operands, IsClosed};
+ghost use Rattle.span_model.specs.Closure.{operand as operand_sets, co_operands, IsClosed};
 ghost use Rattle.gf2_span.specs.Basis.{row_sets};
 ghost use Rattle.gf2_span.specs.Rows.{IsLast};
+ghost use Rattle.linear_view.specs.Sides.{step_of};
 ghost use Rattle.linear_view.specs.View.{products_of};
 ghost use Rattle.attack_cert.specs.Levels.{steps_of};
-ghost use Rattle.attack_cert.specs.Levelled.{operand_steps, IsSplit, ReachLeak};
+ghost use Rattle.attack_cert.specs.Levelled.{operand_steps, noted_of, IsTold, AreTold, IsOnlyLead, AreLeads, IsSplit, ReachLeak};
 
 use attack_model::{Operand, Side};
 use gf2_span::{BitRow, Span};
@@ -40,6 +41,7 @@ pub(crate) fn levelled_steps(
     ensures few { IfOk result (λ found. IfSome found (λ steps. length steps.items < 2 ^ 32)) }
     ensures found { IfOk result (λ found. MatchOption found (¬ IsClosed (products_of view.now) (set_of leak.now)) (λ steps. ReachLeak (products_of view.now) (set_of leak.now) steps.items)) }
 {
+    let leads = leads_of(alloc, view)?;
     let mut pending = all_operands(alloc, view)?;
     let mut steps = Vec::new(alloc);
     let mut span = Span::new(alloc, view.columns())?;
@@ -48,7 +50,7 @@ pub(crate) fn levelled_steps(
         if span.contains(leak, &mut scratch) {
             return Ok(Some(steps));
         }
-        let Split { level, rest } = next_level(alloc, view, leak, &span, &pending)?;
+        let Split { level, rest } = next_level(alloc, view, leak, &span, &leads, &pending)?;
         if level.is_empty() {
             return Ok(None);
         }
@@ -62,7 +64,7 @@ pub(crate) fn levelled_steps(
 fn all_operands(alloc: Global, view: &View) -> Result<Vec<Operand>, AllocError>
     ensures { IfOk result (λ operands. operand_steps operands.items ≡ steps_of (length view.now.products)) }
 {
-    let mut operands = Vec::new(alloc);
+    let mut operands = Vec::with_capacity(alloc, 2 * view.products() as usize)?;
     for product in 0..view.products() {
         operands.push(Operand {
             product,
@@ -87,11 +89,52 @@ fn remainder(alloc: Global, span: &Span, row: &BitRow) -> Result<BitRow, AllocEr
     Ok(left)
 }
 
-// Whether the greatest columns of two rows, of which the second is given by that alone, show that their sum is not in the span.
-fn lead_apart(span: &Span, row: &BitRow, lead: u32) -> bool
-    ensures { (left : Columns ℕ) → IsLast left lead → OnTrue result (¬ InSpan (row_sets span.now) (set_of row.now △ left)) }
+// The greatest column of a row that is alone.
+fn only_lead(rows: &[BitRow]) -> Option<u32>
+    ensures { IfSome result (IsOnlyLead (sets_of rows.now)) }
 {
-    match row.last() {
+    match rows {
+        [row] => row.last(),
+        _ => None,
+    }
+}
+
+// The greatest column of the row of a product's operand on this side, where that is alone.
+fn lead_on(view: &View, product: u32, side: Side) -> Option<u32>
+    requires { product < length view.now.products }
+    ensures { IfSome result (IsOnlyLead (operand_sets (products_of view.now) (step_of (record { product = product; side = side })))) }
+{
+    only_lead(view.operand(Operand { product, side }))
+}
+
+// Of each operand, left before right, the greatest column of its row, where that is alone.
+fn leads_of(alloc: Global, view: &View) -> Result<Vec<Option<u32>>, AllocError>
+    ensures { IfOk result (λ leads. AreLeads (products_of view.now) leads.items) }
+{
+    let mut leads = Vec::with_capacity(alloc, 2 * view.products() as usize)?;
+    for product in 0..view.products() {
+        leads.push(lead_on(view, product, Side::Left))?;
+        leads.push(lead_on(view, product, Side::Right))?;
+    }
+    Ok(leads)
+}
+
+// What is noted of the operand.
+fn noted<T: Copy>(notes: &[Option<T>], operand: Operand) -> Option<T>
+    ensures { result ≡ noted_of notes.now operand }
+{
+    match notes.get(operand.place()) {
+        Some(note) => *note,
+        None => None,
+    }
+}
+
+// Whether the greatest columns of rows and of what is left, `lead`, show that the rows do not span with the span what is left.
+fn is_apart(span: &Span, own: Option<u32>, lead: u32) -> bool
+    ensures { (rows : List (Columns ℕ)) (left : Columns ℕ) → IfSome own (IsOnlyLead rows) → IsLast left lead
+        → ¬ InSpan (row_sets span.now) left → OnTrue result (¬ InSpan (rows ++ row_sets span.now) left) }
+{
+    match own {
         Some(c) if c < lead => !span.has_lead(lead),
         Some(c) if lead < c => !span.has_lead(c),
         _ => false,
@@ -115,32 +158,15 @@ fn holds_sum(span: &Span, row: &BitRow, left: &mut BitRow, scratch: &mut BitRow)
     holds
 }
 
-// Whether a row gives with the span what is left of the leak, whose greatest column is `lead`. Mostly the greatest columns tell.
-fn gives_left(span: &Span, row: &BitRow, lead: u32, left: &mut BitRow, scratch: &mut BitRow) -> bool
-    requires row { length row.now ≡ span.now.columns }
-    requires lead { IsLast (set_of left.old) lead }
-    requires left { length left.old ≡ span.now.columns }
-    requires scratch { length scratch.old ≡ span.now.columns }
-    ensures answer { MatchBool result
-        (InSpan (row_sets span.now) (set_of row.now △ set_of left.old)) (¬ InSpan (row_sets span.now) (set_of row.now △ set_of left.old)) }
-    ensures columns { length left.new ≡ length left.old }
-    ensures left { set_of left.new ≡ set_of left.old }
-    ensures scratch { length scratch.new ≡ length scratch.old }
-{
-    !lead_apart(span, row, lead) && holds_sum(span, row, left, scratch)
-}
-
-// Whether rows span with the span what is left of the leak, which the span does not, and whose greatest column is `lead`.
+// Whether rows span with the span what is left of the leak, which the span does not.
 fn spans_left(
     alloc: Global,
     span: &Span,
     rows: &[BitRow],
-    lead: u32,
     left: &mut BitRow,
     scratch: &mut BitRow,
 ) -> Result<bool, AllocError>
     requires rows { (k : ℕ) → k < length rows.now → length (slice_index_or rows.now k []) ≡ span.now.columns }
-    requires lead { IsLast (set_of left.old) lead }
     requires left { length left.old ≡ span.now.columns }
     requires outside { ¬ InSpan (row_sets span.now) (set_of left.old) }
     requires scratch { length scratch.old ≡ span.now.columns }
@@ -151,9 +177,77 @@ fn spans_left(
     ensures scratch { length scratch.new ≡ length scratch.old }
 {
     if let [row] = rows {
-        return Ok(gives_left(span, row, lead, left, scratch));
+        return Ok(holds_sum(span, row, left, scratch));
     }
     span.spans_with(alloc, rows, left)
+}
+
+// Whether an operand spans with the span what is left of the leak, which the span does not, and whose greatest column is
+// `lead`. Mostly the greatest columns tell.
+fn gives_left(
+    alloc: Global,
+    view: &View,
+    span: &Span,
+    leads: &[Option<u32>],
+    operand: Operand,
+    lead: u32,
+    left: &mut BitRow,
+    scratch: &mut BitRow,
+) -> Result<bool, AllocError>
+    requires product { operand.product < length view.now.products }
+    requires span { span.now.columns ≡ length view.now.columns }
+    requires leads { AreLeads (products_of view.now) leads.now }
+    requires lead { IsLast (set_of left.old) lead }
+    requires left { length left.old ≡ span.now.columns }
+    requires outside { ¬ InSpan (row_sets span.now) (set_of left.old) }
+    requires scratch { length scratch.old ≡ span.now.columns }
+    ensures answer { IfOk result (IsTold (products_of view.now) (set_of left.old) (row_sets span.now) operand) }
+    ensures columns { length left.new ≡ length left.old }
+    ensures left { set_of left.new ≡ set_of left.old }
+    ensures scratch { length scratch.new ≡ length scratch.old }
+{
+    if is_apart(span, noted(leads, operand), lead) {
+        return Ok(false);
+    }
+    spans_left(alloc, span, view.operand(operand), left, scratch)
+}
+
+// The same, by what was told of an operand with the same rows where there is one.
+fn gives_left_alike(
+    alloc: Global,
+    view: &View,
+    span: &Span,
+    leads: &[Option<u32>],
+    told: &mut Vec<Option<bool>>,
+    operand: Operand,
+    lead: u32,
+    left: &mut BitRow,
+    scratch: &mut BitRow,
+) -> Result<bool, AllocError>
+    requires product { operand.product < length view.now.products }
+    requires span { span.now.columns ≡ length view.now.columns }
+    requires leads { AreLeads (products_of view.now) leads.now }
+    requires told { AreTold (products_of view.now) (set_of left.old) (row_sets span.now) told.old.items }
+    requires lead { IsLast (set_of left.old) lead }
+    requires left { length left.old ≡ span.now.columns }
+    requires outside { ¬ InSpan (row_sets span.now) (set_of left.old) }
+    requires scratch { length scratch.old ≡ span.now.columns }
+    ensures answer { IfOk result (IsTold (products_of view.now) (set_of left.old) (row_sets span.now) operand) }
+    ensures told { OnOk result (AreTold (products_of view.now) (set_of left.old) (row_sets span.now) told.new.items) }
+    ensures columns { length left.new ≡ length left.old }
+    ensures left { set_of left.new ≡ set_of left.old }
+    ensures scratch { length scratch.new ≡ length scratch.old }
+{
+    let like = view.alike(operand);
+    if let Some(gives) = noted(told, like) {
+        return Ok(gives);
+    }
+    let gives = gives_left(alloc, view, span, leads, like, lead, left, scratch)?;
+    let place = like.place();
+    if place < told.len() {
+        told[place] = Some(gives);
+    }
+    Ok(gives)
 }
 
 // Which of the pending operands span the leak with the span of what is known, which does not.
@@ -162,8 +256,10 @@ fn next_level(
     view: &View,
     leak: &BitRow,
     span: &Span,
+    leads: &[Option<u32>],
     pending: &[Operand],
 ) -> Result<Split, AllocError>
+    requires leads { AreLeads (products_of view.now) leads.now }
     requires leak { length leak.now ≡ length view.now.columns }
     requires span { span.now.columns ≡ length view.now.columns }
     requires outside { ¬ InSpan (row_sets span.now) (set_of leak.now) }
@@ -174,11 +270,21 @@ fn next_level(
     let mut left = remainder(alloc, span, leak)?;
     let mut scratch = left.copy(alloc)?;
     let mut level = Vec::new(alloc);
-    let mut rest = Vec::new(alloc);
+    let mut rest = Vec::with_capacity(alloc, pending.len())?;
+    let mut told = vec![in alloc; None; 2 * view.products() as usize]?;
     let lead = left.last().unwrap();
     for operand in pending {
-        let rows = view.operand(*operand);
-        let spans = spans_left(alloc, span, rows, lead, &mut left, &mut scratch)?;
+        let spans = gives_left_alike(
+            alloc,
+            view,
+            span,
+            leads,
+            &mut told,
+            *operand,
+            lead,
+            &mut left,
+            &mut scratch,
+        )?;
         if spans {
             level.push(*operand)?;
         } else {

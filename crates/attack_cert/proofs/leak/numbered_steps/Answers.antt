@@ -7,7 +7,7 @@ use Rattle.attack_cert.specs.Kept.{AreNumbered}
 use Rattle.attack_cert.specs.declared.numbers.Numbered.{Numbered}
 use Rattle.attack_cert.proofs.Supporting.{supported}
 use Rattle.attack_cert.proofs.Deriving.{is_derivation, no_more_steps}
-use Rattle.attack_cert.proofs.Places.{if_ok}
+use Rattle.linear_view.proofs.ListLemmas.{if_ok}
 use Rattle.attack_cert.proofs.leak.numbered_steps.Goals as goal
 
 pub co_operand_groups-requires : goal.co_operand_groups-requires

@@ -55,14 +55,14 @@ below P m n items operands e same those =
 pub next_level-requires-clause-products : goal.next_level-requires-clause-products
 next_level-requires-clause-products c =
     let found = c.levels.invariant.levelling in
-    below (λ step. ¬ Contains (listed found.0) step) (length (products_of c.args.view.now)) (length c.args.view.now.products) c.levels.pending.items c.deref.result.now
-    (length-map c.args.view.now.products product_of) c.deref.ensures.value found.1.pend
+    below (λ step. ¬ Contains (listed found.0) step) (length (products_of c.args.view.now)) (length c.args.view.now.products) c.levels.pending.items c.deref-in-levels.result.now
+    (length-map c.args.view.now.products product_of) c.deref-in-levels.ensures.value found.1.pend
 
 pub returns-then-is_empty-clause-found : goal.returns-then-is_empty-clause-found
 returns-then-is_empty-clause-found c =
     let found = c.levels.invariant.levelling in
     let split : IsSplit (products_of c.args.view.now) (set_of c.args.leak.now) (row_sets c.levels.span) c.levels.pending.items c.in_ok-level.field-0.level.items c.in_ok-level.field-0.rest.items
-    = rw c.deref.ensures.value at c.in_ok-level.ensures in
+    = rw c.deref-in-levels.ensures.value at c.in_ok-level.ensures in
     let none = eqb-true c.in_ok-level.field-0.level.len 0 (sym c.if-is_empty.ensures) in
     let kept = c.in_ok-level.field-0.level.ok.0 in
     levelling_is_stuck (products_of c.args.view.now) (set_of c.args.leak.now) found.0 c.levels.steps.items c.levels.pending.items
@@ -72,17 +72,17 @@ pub add_co_operands-requires-clause-products : goal.add_co_operands-requires-cla
 add_co_operands-requires-clause-products c =
     let found = c.levels.invariant.levelling in
     let split : IsSplit (products_of c.args.view.now) (set_of c.args.leak.now) (row_sets c.levels.span) c.levels.pending.items c.in_ok-level.field-0.level.items c.in_ok-level.field-0.rest.items
-    = rw c.deref.ensures.value at c.in_ok-level.ensures in
+    = rw c.deref-in-levels.ensures.value at c.in_ok-level.ensures in
     below (HasNextLevel (products_of c.args.view.now) (set_of c.args.leak.now) found.0) (length (products_of c.args.view.now)) (length c.args.view.now.products)
-    c.in_ok-level.field-0.level.items c.deref-in-levels-2.result.now
-    (length-map c.args.view.now.products product_of) c.deref-in-levels-2.ensures.value
+    c.in_ok-level.field-0.level.items c.deref-in-levels-3.result.now
+    (length-map c.args.view.now.products product_of) c.deref-in-levels-3.ensures.value
     (next_level (products_of c.args.view.now) (set_of c.args.leak.now) found.0 c.levels.steps.items c.levels.pending.items c.in_ok-level.field-0.level.items
     c.in_ok-level.field-0.rest.items (row_sets c.levels.span) found.1 split)
 
 pub levels-smaller : goal.levels-smaller
 levels-smaller c =
     let split : IsSplit (products_of c.args.view.now) (set_of c.args.leak.now) (row_sets c.levels.span) c.levels.pending.items c.in_ok-level.field-0.level.items c.in_ok-level.field-0.rest.items
-    = rw c.deref.ensures.value at c.in_ok-level.ensures in
+    = rw c.deref-in-levels.ensures.value at c.in_ok-level.ensures in
     let level = c.in_ok-level.field-0.level in
     let some : level.len ≢ 0 = λ e. true≢false (sym (eq-eqb level.len 0 e) ∙ sym c.if-is_empty.ensures) in
     let kept = level.ok.0 in
@@ -99,12 +99,12 @@ levels-preserved c =
     let found = c.levels.invariant.levelling in
     let products = products_of c.args.view.now in
     let split : IsSplit products (set_of c.args.leak.now) (row_sets c.levels.span) c.levels.pending.items c.in_ok-level.field-0.level.items c.in_ok-level.field-0.rest.items
-    = rw c.deref.ensures.value at c.in_ok-level.ensures in
+    = rw c.deref-in-levels.ensures.value at c.in_ok-level.ensures in
     let level = c.in_ok-level.field-0.level.items in
     let behind : c.list.new.steps.items ≡ c.levels.steps.items ++ map (λ (t : Operand). let s : Levelled = record { operand = t; lower = length c.levels.steps.items } in s) level
-    = rw c.deref-in-levels.ensures.value at c.in_ok-list.ensures in
+    = rw c.deref-in-levels-2.ensures.value at c.in_ok-list.ensures in
     let grown : SameSpan (row_sets c.add_co_operands.new.span) (row_sets c.levels.span ++ co_operands products (operand_steps level))
-    = rw c.deref-in-levels-2.ensures.value at c.in_ok-add_co_operands.ensures.span in
+    = rw c.deref-in-levels-3.ensures.value at c.in_ok-add_co_operands.ensures.span in
     record {
       columns = c.in_ok-add_co_operands.ensures.columns ∙ c.levels.invariant.columns;
       scratch = c.contains.ensures.scratch ∙ c.levels.invariant.scratch;

@@ -5,6 +5,7 @@ pub mod Calls
 pub mod Clearing
 pub mod Closures
 pub mod Gathering
+pub mod Placing
 pub mod Imaging
 pub mod Leading
 pub mod Passes

@@ -1,10 +1,12 @@
 -- The operands of products, gathered in classes: operands that span the same sets are one class.
-use Rattle.std.specs.Prelude.{◌≡◌, ◌≢◌, ◌<◌, ◌≤◌, ◌↔◌, ◌⊎◌, ◌+◌, ◌^◌, ℕ, not, count_by, Bool, true, false, List, [], length, slice_index_or, All, Contains}
+use Rattle.std.specs.Prelude.{◌≡◌, ◌≢◌, ◌<◌, ◌≤◌, ◌↔◌, ◌⊎◌, ◌+◌, ◌^◌, ℕ, not, count_by, Option, None, IfSome, Bool, true, false, List, [], length, slice_index_or, All, Contains}
 use Rattle.span_model.specs.Columns.{Columns, empty, sets_of}
 use Rattle.span_model.specs.Span.{InSpan, SameSpan}
 use Rattle.span_model.specs.Attack.{Product}
 use Rattle.span_model.specs.Closure.{Step, operand, co_operand, IsClosed}
 use Rattle.gf2_span.specs.Rows.{IsLast, HaveOwnLeads, LeadsNoMember}
+use Rattle.linear_view.specs.Sides.{step_of, place_of}
+use Rattle.linear_view.specs.declared.operand.Operand.{Operand}
 use Rattle.tightprove.specs.declared.class.Class.{Class}
 use Rattle.tightprove.specs.declared.classes.Classes.{Classes}
 
@@ -58,6 +60,19 @@ pub record HasClassesOf (old new : List Class) : Type 0 where
   pub count : length old ≤ length new
   pub kept : (i : ℕ) → i < length old → class_at new i ≡ class_at old i
   pub fresh : (i : ℕ) → length old ≤ i → (class_at new i).partners ≡ []
+
+-- the class that is noted of an operand
+abbrev pub noted_class : List (Option ℕ) → Operand → Option ℕ
+noted_class placed operand = slice_index_or placed (place_of operand) None
+
+-- the class of this number spans what the operand of these products spans
+abbrev pub IsPlaced : List (Product ℕ) → List Class → Operand → ℕ → Type 0
+IsPlaced products classes taken i =
+    (i < length classes) × SameSpan (class_rows classes i) (operand products (step_of taken))
+
+-- what is noted of operands is such a class
+abbrev pub ArePlaced : List (Product ℕ) → List Class → List (Option ℕ) → Type 0
+ArePlaced products classes placed = (taken : Operand) → IfSome (noted_class placed taken) (IsPlaced products classes taken)
 
 -- j is a new partner of i, all other partners are as they were
 abbrev pub HasPartnersAnd : (old : List Class) (i j : ℕ) (new : List Class) → Type 0

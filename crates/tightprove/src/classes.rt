@@ -4,7 +4,7 @@ ghost use Rattle.span_model.specs.Span.{SameSpan};
 ghost use Rattle.span_model.specs.Attack.{Product, product_at};
 ghost use Rattle.gf2_span.specs.Basis.{row_sets};
 ghost use Rattle.linear_view.specs.View.{products_of, product_of, Operands};
-ghost use Rattle.tightprove.specs.Classes.{class_at, class_rows, IsPartner, AreClasses, AreByLead, AreClassesOf, AreStepsOf, AreNear, AreListed, IsGathered, HasClassesOf, HasPartnersAnd, HasInLanes, LeadsApart};
+ghost use Rattle.tightprove.specs.Classes.{class_at, class_rows, IsPartner, AreClasses, AreByLead, AreClassesOf, AreStepsOf, AreNear, AreListed, IsGathered, noted_class, IsPlaced, ArePlaced, HasClassesOf, HasPartnersAnd, HasInLanes, LeadsApart};
 ghost use Rattle.gf2_span.specs.Rows.{IsLast, HaveOwnLeads};
 ghost use Rattle.std.specs.Bool.{OnTrue};
 
@@ -343,32 +343,56 @@ pub(crate) fn add_partner(list: &mut Vec<Class>, i: usize, j: usize) -> Result<(
     Ok(())
 }
 
-// Gathers the operands of one more product.
-fn add_product(
+// The number of the class that was noted of an operand.
+fn placed_at(placed: &[Option<usize>], operand: Operand) -> Option<usize>
+    ensures { result ≡ noted_class placed.now operand }
+{
+    match placed.get(operand.place()) {
+        Some(class) => *class,
+        None => None,
+    }
+}
+
+// The number of the class of an operand: that of an operand with the same rows, where one was placed.
+fn place_operand(
     alloc: Global,
-    columns: u32,
+    view: &View,
+    operand: Operand,
     list: &mut Vec<Class>,
     by_lead: &mut Vec<List<usize>>,
     by_row: &mut Vec<List<usize>>,
-    left: &SharedRows,
-    right: &SharedRows,
-) -> Result<(), AllocError>
-    requires classes { AreClasses columns list.old.items }
+    placed: &mut Vec<Option<usize>>,
+) -> Result<usize, AllocError>
+    requires product { operand.product < length view.now.products }
+    requires classes { AreClasses (length view.now.columns) list.old.items }
     requires by_lead { AreByLead list.old.items by_lead.old.items }
-    requires width { length by_lead.old.items ≡ columns }
-    requires left { (k : ℕ) → k < length left.now → length (slice_index_or left.now k []) ≡ columns }
-    requires right { (k : ℕ) → k < length right.now → length (slice_index_or right.now k []) ≡ columns }
-    ensures few { OnOk result (length list.new.items ≤ length list.old.items + 2) }
-    ensures steps { OnOk result ((n : ℕ) (products : List (Product ℕ)) → product_at products n ≡ record { left = sets_of left.now; right = sets_of right.now } → AreStepsOf n products list.old.items → AreStepsOf (suc n) products list.new.items) }
-    ensures classes { OnOk result (AreClasses columns list.new.items) }
+    requires width { length by_lead.old.items ≡ length view.now.columns }
+    requires placed { ArePlaced (products_of view.now) list.old.items placed.old.items }
+    ensures number { IfOk result (λ i. IsPlaced (products_of view.now) list.new.items operand i) }
+    ensures kept { OnOk result (HasClassesOf list.old.items list.new.items) }
+    ensures few { OnOk result (length list.new.items ≤ length list.old.items + 1) }
+    ensures classes { OnOk result (AreClasses (length view.now.columns) list.new.items) }
     ensures by_lead { OnOk result (AreByLead list.new.items by_lead.new.items) }
-    ensures width { length by_lead.new.items ≡ columns }
+    ensures width { length by_lead.new.items ≡ length view.now.columns }
+    ensures placed { OnOk result (ArePlaced (products_of view.now) list.new.items placed.new.items) }
 {
-    let i = place(alloc, columns, list, by_lead, by_row, left)?;
-    let j = place(alloc, columns, list, by_lead, by_row, right)?;
-    add_partner(list, i, j)?;
-    add_partner(list, j, i)?;
-    Ok(())
+    let like = view.alike(operand);
+    if let Some(i) = placed_at(placed, like) {
+        return Ok(i);
+    }
+    let i = place(
+        alloc,
+        view.columns(),
+        list,
+        by_lead,
+        by_row,
+        view.shared_operand(like),
+    )?;
+    let at = like.place();
+    if at < placed.len() {
+        placed[at] = Some(i);
+    }
+    Ok(i)
 }
 
 // Gathers the operands of product k of a view.
@@ -379,26 +403,28 @@ fn add_numbered(
     list: &mut Vec<Class>,
     by_lead: &mut Vec<List<usize>>,
     by_row: &mut Vec<List<usize>>,
+    placed: &mut Vec<Option<usize>>,
 ) -> Result<(), AllocError>
     requires k { k < length view.now.products }
     requires classes { AreClasses (length view.now.columns) list.old.items }
     requires by_lead { AreByLead list.old.items by_lead.old.items }
     requires width { length by_lead.old.items ≡ length view.now.columns }
+    requires placed { ArePlaced (products_of view.now) list.old.items placed.old.items }
     ensures few { OnOk result (length list.new.items ≤ length list.old.items + 2) }
     ensures steps { OnOk result (AreStepsOf k (products_of view.now) list.old.items → AreStepsOf (suc k) (products_of view.now) list.new.items) }
     ensures classes { OnOk result (AreClasses (length view.now.columns) list.new.items) }
     ensures by_lead { OnOk result (AreByLead list.new.items by_lead.new.items) }
     ensures width { length by_lead.new.items ≡ length view.now.columns }
+    ensures placed { OnOk result (ArePlaced (products_of view.now) list.new.items placed.new.items) }
 {
-    let left = view.shared_operand(Operand {
+    let left = Operand {
         product: k,
         side: Side::Left,
-    });
-    let right = view.shared_operand(Operand {
-        product: k,
-        side: Side::Right,
-    });
-    add_product(alloc, view.columns(), list, by_lead, by_row, left, right)?;
+    };
+    let i = place_operand(alloc, view, left, list, by_lead, by_row, placed)?;
+    let j = place_operand(alloc, view, left.other(), list, by_lead, by_row, placed)?;
+    add_partner(list, i, j)?;
+    add_partner(list, j, i)?;
     Ok(())
 }
 
@@ -424,8 +450,17 @@ pub(crate) fn classes_of(alloc: Global, view: &View) -> Result<Classes, AllocErr
     let mut list = Vec::new(alloc);
     let mut by_lead = empty_lanes(alloc, columns)?;
     let mut by_row = empty_lanes(alloc, view.products())?;
+    let mut placed = vec![in alloc; None; 2 * view.products() as usize]?;
     for k in 0..view.products() {
-        add_numbered(alloc, view, k, &mut list, &mut by_lead, &mut by_row)?;
+        add_numbered(
+            alloc,
+            view,
+            k,
+            &mut list,
+            &mut by_lead,
+            &mut by_row,
+            &mut placed,
+        )?;
     }
     Ok(Classes {
         columns,

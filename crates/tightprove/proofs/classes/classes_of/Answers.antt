@@ -13,6 +13,7 @@ loop-k-preserved c =
       classes = subst Q (sym c.columns-columns.ensures.value) c.in_ok-add_numbered.ensures.classes;
       by_lead = c.in_ok-add_numbered.ensures.by_lead;
       width = c.in_ok-add_numbered.ensures.width ∙ sym c.columns-columns.ensures.value;
+      placed = c.in_ok-add_numbered.ensures.placed;
       steps = subst P (sym (add-one c.loop-k.k)) (c.in_ok-add_numbered.ensures.steps c.loop-k.invariant.steps);
     }
 

@@ -5,7 +5,9 @@ use Rattle.std.proofs.lemmas.List.{get_or_past, length-map}
 use mathlib.Core.Path.{fun_ext}
 use Rattle.span_model.specs.Refresh.{IsWithin, without}
 use Rattle.usuba0.specs.Circuit.{Circuit, IsCore, products_of}
-use Rattle.linear_view.specs.Rows.{core_view}
+use Rattle.linear_view.specs.Names.{core_columns}
+use Rattle.linear_view.specs.Rows.{core_products, operands_over}
+use Rattle.linear_view.specs.NarrowView.{IsNarrowView}
 use Rattle.linear_view.specs.View as view
 use Rattle.linear_view.specs.CoreViewLaw.{CoreViewSize}
 use Rattle.tightprove.specs.LeavingOut.{IsLeastLeftOut}
@@ -13,21 +15,24 @@ use Rattle.core_refresh.specs.RefreshedCore.{marked, refreshed_core}
 use Rattle.refresh_place.specs.RepairSet.{IsAttackedWith, IsRepairSetOf, IsRepairOf}
 use Rattle.refresh_place.specs.RefreshedAttacks.{AttacksOnRefreshedCores, LeftOutOfView}
 
--- how many products the view has
-pub view_count : CoreViewSize → (core : Circuit) (seen : view.LinearView) → seen ≡ core_view core → length seen.products ≡ products_of core.equations
-view_count size core seen e = ap (λ (v : view.LinearView). length v.products) e ∙ size.products core
+-- how many products a narrow view has
+pub narrow_count : CoreViewSize → (core : Circuit) (seen : view.LinearView) → IsNarrowView core seen
+    → length seen.products ≡ products_of core.equations
+narrow_count size core seen narrow =
+    ap length narrow.products
+    ∙ length-map (core_products core) (operands_over seen.columns)
+    ∙ sym (length-map (core_products core) (operands_over (core_columns core)))
+    ∙ size.products core
 
--- products that are left out of the view are a repair set
-pub least_repairs : LeftOutOfView → CoreViewSize → (core : Circuit) (seen : view.LinearView) (set : ℕ → Bool) → IsCore core → seen ≡ core_view core
-    → IsLeastLeftOut (view.products_of seen) set → IsRepairSetOf core set
-least_repairs law size core seen set is e least =
-    let same : IsLeastLeftOut (view.products_of (core_view core)) set =
-    subst (λ (v : view.LinearView). IsLeastLeftOut (view.products_of v) set) e least in
-    let count = size.products core in
-    let many = length-map (core_view core).products view.product_of in
+-- products that are left out of a narrow view are a repair set
+pub least_repairs : LeftOutOfView → CoreViewSize → (core : Circuit) (seen : view.LinearView) (set : ℕ → Bool) → IsCore core
+    → IsNarrowView core seen → IsLeastLeftOut (view.products_of seen) set → IsRepairSetOf core set
+least_repairs law size core seen set is narrow least =
+    let count = narrow_count size core seen narrow in
+    let many = length-map seen.products view.product_of in
     record {
-      secure = λ has. same.secure ((law core set is).0 has);
-      needed = λ k below there. (law core (without k set) is).1 (same.needed k (omega arith) there);
+      secure = λ has. least.secure ((law.narrow core set is seen narrow).0 has);
+      needed = λ k below there. (law.narrow core (without k set) is seen narrow).1 (least.needed k (omega arith) there);
     }
 
 within_without : (k : ℕ) (less more : ℕ → Bool) → IsWithin less more → less k ≡ false → IsWithin less (without k more)

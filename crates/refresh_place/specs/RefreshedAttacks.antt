@@ -5,6 +5,7 @@ use Rattle.span_model.specs.Refresh.{refreshed, left_out, IsWithin}
 use Rattle.span_model.specs.Renaming.{AreRenamed}
 use Rattle.usuba0.specs.Circuit.{Circuit, IsCore, products_of}
 use Rattle.linear_view.specs.Rows.{core_products, core_view}
+use Rattle.linear_view.specs.NarrowView.{IsNarrowView}
 use Rattle.linear_view.specs.View as view
 use Rattle.core_refresh.specs.RefreshedCore.{refreshed_core}
 use Rattle.refresh_place.specs.RepairSet.{IsAttackedWith}
@@ -26,8 +27,10 @@ pub record AttacksOnRefreshedCores : Type 0 where
   pub none_refreshed : (core : Circuit) → IsCore core
       → IsAttackedWith core (λ _. false) ↔ HasAttack (core_products core)
 
--- with a set refreshed a core has an attack exactly where the products of its view have one without those of the set
-abbrev pub LeftOutOfView : Type 0
-LeftOutOfView =
-    (core : Circuit) (set : ℕ → Bool) → IsCore core
-    → IsAttackedWith core set ↔ HasAttack (left_out set (view.products_of (core_view core)))
+-- with a set refreshed a core has an attack exactly where the products of its view have one without those of the set,
+-- and where those of a narrow view of it have one
+pub record LeftOutOfView : Type 0 where
+  pub whole : (core : Circuit) (set : ℕ → Bool) → IsCore core
+      → IsAttackedWith core set ↔ HasAttack (left_out set (view.products_of (core_view core)))
+  pub narrow : (core : Circuit) (set : ℕ → Bool) → IsCore core → (seen : view.LinearView) → IsNarrowView core seen
+      → IsAttackedWith core set ↔ HasAttack (left_out set (view.products_of seen))

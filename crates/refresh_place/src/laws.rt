@@ -1,6 +1,6 @@
 ghost use Rattle.refresh_place.specs.RefreshedAttacks.{RefreshedCoresAreRefreshed, AttacksOnRefreshedCores, LeftOutOfView};
 
-use linear_view::{Column, core_view_size};
+use linear_view::{Column, core_view_size, narrow_views_keep_attacks};
 use span_model::{
     all_refreshed_is_secure, attack_stays_with_fewer, none_refreshed_is_same,
     refreshed_is_left_out, refreshed_under_names, renaming_keeps_attacks,
@@ -23,7 +23,7 @@ pub fn attacks_on_refreshed_cores()
     core_view_size();
 }
 
-/// The attacks on a refreshed core are those on the core's view without the products of the set.
+/// The attacks on a refreshed core are those on the core's view, and on a narrow view of it, without the products of the set.
 pub fn left_out_of_view()
     ensures { LeftOutOfView }
 {
@@ -32,4 +32,5 @@ pub fn left_out_of_view()
     refreshed_is_left_out::<Column>();
     renaming_keeps_attacks::<Column, u32>();
     renaming_keeps_attacks::<u32, Column>();
+    narrow_views_keep_attacks();
 }

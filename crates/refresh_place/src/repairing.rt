@@ -5,7 +5,7 @@ ghost use Rattle.refresh_place.specs.RepairSet.{IsRepairSetOf, IsRepairOf};
 
 use crate::laws::{attacks_on_refreshed_cores, left_out_of_view};
 use core_refresh::refreshed;
-use linear_view::{core_view_size, view_of};
+use linear_view::{core_view_size, narrow_view};
 use std::alloc::{AllocError, Global};
 use tightprove::least_left_out;
 use tor_edge::List;
@@ -28,7 +28,7 @@ fn repair_set(alloc: Global, core: &Core) -> Result<Vec<bool>, AllocError>
     left_out_of_view();
     core_view_size();
     let _width = core.width();
-    let view = view_of(alloc, core)?;
+    let view = narrow_view(alloc, core)?;
     let set = least_left_out(alloc, &view)?;
     Ok(set)
 }

@@ -1,9 +1,12 @@
 -- From what the search says of a view to what is said of its core.
-use Rattle.std.proofs.Common.{◌≡◌, List, ℕ, Bool, Option, None, Some, IfSome, MatchOption, length, sym, subst, codes}
-use Rattle.span_model.specs.Columns.{set_of}
+use Rattle.std.proofs.Common.{◌≡◌, List, ℕ, Bool, Option, None, Some, IfSome, MatchOption, length, sym, ap, ◌∙◌, subst, codes}
+use Rattle.std.proofs.lemmas.List.{length-map}
+use Rattle.span_model.specs.Columns.{Columns, set_of}
 use Rattle.span_model.specs.Attack.{HasAttack, IsAttack, IsLeak}
 use Rattle.usuba0.specs.Circuit.{Circuit, IsCore}
-use Rattle.linear_view.specs.AttackLaw.{AttacksAreTheViews}
+use Rattle.linear_view.specs.AttackLaw.{AttacksAreTheViews, set_in}
+use Rattle.linear_view.specs.NarrowView.{IsNarrowView}
+use Rattle.linear_view.specs.NarrowLaw.{NarrowViewsKeepAttacks}
 use Rattle.linear_view.specs.Names.{core_columns}
 use Rattle.linear_view.specs.Rows.{core_products, core_view}
 use Rattle.linear_view.specs.View.{LinearView, products_of}
@@ -13,12 +16,15 @@ use Rattle.attack_model.specs.declared.attack.Listing.{Listing}
 use Rattle.attack_probes.specs.Unfolding.{unfolding_of}
 use Rattle.attack_probes.specs.Listings.{Lists, Holds}
 use Rattle.attack_cert.specs.Derivation.{IsDerivation}
-use Rattle.attack_text.specs.AttackText.{attack_text}
+use Rattle.attack_cert.specs.DerivationLaws.{RenamingKeepsDerivations}
+use Rattle.attack_text.specs.AttackText.{attack_text_among}
+use Rattle.attack_text.specs.NarrowTextLaw.{widened_attack, NarrowTextsAreWhole}
 use Rattle.tornado_main.specs.Ending.{Stops, Nowhere}
 use Rattle.tornado_main.specs.Files.{Contents, FileIs}
 use Rattle.tornado_main.specs.Bases as bases
 use Rattle.tornado_main.specs.Steps.{AfterFile}
 use Rattle.tornado_main.specs.Outcome.{Outcome, answers}
+use Rattle.tornado_main.specs.Findings.{IsAttackOver, IsTextOfAttack}
 use Rattle.tornado_main.specs.commands.Check.{IsVerdict, IsAttackOfLeak, found}
 use Rattle.tornado_main.specs.commands.Verify.{IsConfirmation, SpellsAttack, IsFaultyAttack, VerifyEnds, holds, fails}
 use Rattle.tornado_words.specs.declared.order.Basis.{Basis}
@@ -30,17 +36,69 @@ use Rattle.tornado_main.proofs.StepLemmas.{stops_anyway, stops_later, goes_on_wi
 pub some_so : (T : Type 0) (o : Option T) (x : T) (P : T → Type 0) → o ≡ Some x → IfSome o P → P x
 some_so T o x P is = subst (λ (k : Option T). IfSome k P → P x) (sym is) (λ h. h)
 
--- a view without an attack is that of a core without one
-pub none_so : AttacksAreTheViews → (core : Circuit) → IsCore core → (view : LinearView) → view ≡ core_view core → ¬ HasAttack (products_of view)
-    → ¬ HasAttack (core_products core)
-none_so law core is_core view is none = λ attack.
-    subst (λ (v : LinearView). ¬ HasAttack (products_of v)) is none ((law.attack core is_core).0 attack)
+-- a narrow view without an attack is that of a core without one
+pub none_so : NarrowViewsKeepAttacks → (core : Circuit) → IsCore core → (view : LinearView) → IsNarrowView core view
+    → ¬ HasAttack (products_of view) → ¬ HasAttack (core_products core)
+none_so law core is_core view narrow none = λ attack. none ((law.attack core is_core view narrow).0 attack)
+
+-- an attack over a narrow view is, with its leak over all columns, one on the core
+pub widened_is_attack : NarrowViewsKeepAttacks → RenamingKeepsDerivations ℕ ℕ → (core : Circuit) → IsCore core
+    → (view : LinearView) → IsNarrowView core view → (attack : Attack) → IsAttackOver view attack
+    → IsAttackOfLeak core (widened_attack core view attack)
+widened_is_attack law carries core is_core view narrow attack over =
+    let leak = attack.derivation.leak in
+    let steps = attack.derivation.steps in
+    let root = attack.derivation.root in
+    let names = law.view_names core is_core view narrow in
+    let whole = products_of (core_view core) in
+    record {
+      columns = length-map (core_columns core) (set_in view.columns leak);
+      derivation =
+          subst (λ (l : Columns ℕ). IsDerivation whole l steps root) (names.1 leak over.columns)
+          (carries names.0.name names.0.back (products_of view) whole names.0.there names.0.again (set_of leak) steps root
+          over.derivation);
+      listing = over.listing;
+      is_attack = (
+        over.is_attack.0,
+        (law.row_probes core is_core view narrow leak over.columns over.is_attack.0 (unfolding_of steps root)).1
+            over.is_attack.1,
+      );
+    }
+
+-- what is written of an attack over a narrow view is the text of one on the core
+pub text_of_attack : NarrowViewsKeepAttacks → RenamingKeepsDerivations ℕ ℕ → NarrowTextsAreWhole → (core : Circuit)
+    → IsCore core → (view : LinearView) → IsNarrowView core view → (columns : ℕ) → columns ≡ length (core_columns core)
+    → (attack : Attack) → IsAttackOver view attack → IsTextOfAttack core (attack_text_among columns view attack)
+text_of_attack law carries texts core is_core view narrow columns count attack over =
+    record {
+      attack = widened_attack core view attack;
+      of_leak = widened_is_attack law carries core is_core view narrow attack over;
+      text_is =
+          ap (λ (n : ℕ). attack_text_among n view attack) count
+          ∙ sym (texts core is_core view narrow attack over.columns);
+    }
 
 -- what a leak's derivation on a view is
 record IsOnView (view : LinearView) (leak : List Bool) (d : Derivation) : Type 0 where
   columns : length leak ≡ length view.columns
   derivation : IsDerivation (products_of view) (set_of leak) d.steps d.root
   attack : IsAttack (products_of view) (length (unfolding_of d.steps d.root)) (set_of leak) (unfolding_of d.steps d.root)
+
+-- what is kept of a leak's derivation and what it unfolds to
+pub attack_over : (view : LinearView) (leak : List Bool) (d : Derivation) (listing : Listing) → d.leak ≡ leak
+    → length leak ≡ length view.columns → IsDerivation (products_of view) (set_of leak) d.steps d.root
+    → IsAttack (products_of view) (length (unfolding_of d.steps d.root)) (set_of leak) (unfolding_of d.steps d.root)
+    → Lists listing (unfolding_of d.steps d.root) → IsAttackOver view (record { derivation = d; listing = listing })
+attack_over view leak d listing same columns derived attack lists =
+    let own : IsOnView view d.leak d =
+    subst (λ (l : List Bool). IsOnView view l d) (sym same)
+    (record { columns = columns; derivation = derived; attack = attack }) in
+    record {
+      columns = own.columns;
+      derivation = own.derivation;
+      listing = lists;
+      is_attack = (length (unfolding_of d.steps d.root), own.attack);
+    }
 
 -- a leak's derivation and what this unfolds to are an attack of it on the core
 pub attack_of_leak : AttacksAreTheViews → (core : Circuit) → IsCore core → (view : LinearView) → view ≡ core_view core
@@ -78,9 +136,9 @@ pub fails_so : (core : Circuit) (view : LinearView) → view ≡ core_view core 
 fails_so core view is attack not = fails (subst (λ (v : LinearView). ¬ Holds v attack) is not)
 
 -- the verdict on a core with an attack
-pub found_verdict : (core : Circuit) (view : LinearView) (attack : Attack) → view ≡ core_view core → IsAttackOfLeak core attack
-    → IsVerdict core (answers (attack_text view attack) Found)
-found_verdict core view attack is of_leak = subst (λ (v : LinearView). IsVerdict core (answers (attack_text v attack) Found)) (sym is) (found attack of_leak)
+pub found_verdict : (core : Circuit) (text : List ℕ) → IsTextOfAttack core text → IsVerdict core (answers text Found)
+found_verdict core text is =
+    subst (λ (t : List ℕ). IsVerdict core (answers t Found)) (sym is.text_is) (found is.attack is.of_leak)
 
 -- what holds where there is none, and where there is one
 pub none_case : (T : Type 0) (o : Option T) (P : Type 0) (Q : T → Type 0) → o ≡ None → MatchOption o P Q → P

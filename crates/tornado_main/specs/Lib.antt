@@ -2,6 +2,7 @@ pub mod Status
 pub mod Words
 pub mod Message
 pub mod Files
+pub mod Findings
 pub mod Fetching
 pub mod Source
 pub mod CoreText

@@ -3,24 +3,26 @@
 ghost use Rattle.std.specs.Prelude.{◌≡◌, ◌∷◌, [], length, IfOk, MatchOption};
 ghost use Rattle.span_model.specs.Columns.{set_of};
 ghost use Rattle.span_model.specs.Attack.{IsLeak, HasAttack};
-ghost use Rattle.usuba0.specs.Circuit.{Circuit, IsCore, IsSmall, HasFewColumns};
+ghost use Rattle.usuba0.specs.Circuit.{IsCore, IsSmall, HasFewColumns};
+ghost use Rattle.linear_view.specs.Names.{core_columns};
 ghost use Rattle.linear_view.specs.View.{products_of};
-ghost use Rattle.linear_view.specs.Rows.{core_products, core_view};
-ghost use Rattle.attack_text.specs.AttackText.{attack_text};
+ghost use Rattle.linear_view.specs.Rows.{core_products};
+ghost use Rattle.attack_text.specs.AttackText.{attack_text_among};
 ghost use Rattle.tornado_words.specs.Ranges.{HasFitWidth};
 ghost use Rattle.tornado_main.specs.Ending.{Ends};
-ghost use Rattle.tornado_main.specs.commands.Check.{CheckEnds, IsAttackOfLeak};
+ghost use Rattle.tornado_main.specs.Findings.{IsAttackOver, IsTextOfAttack};
+ghost use Rattle.tornado_main.specs.commands.Check.{CheckEnds};
 
 use crate::answer::{Answer, Line, send};
 use crate::cores::core_of_file;
 use crate::refusal::Refusal;
 use crate::status::Status;
-use attack_cert::derive;
+use attack_cert::{derive, renaming_keeps_derivations};
 use attack_model::Attack;
 use attack_probes::{unfold, unfolding_is_attack};
-use attack_text::write_attack;
+use attack_text::{narrow_texts_are_whole, write_attack_among};
 use gf2_span::BitRow;
-use linear_view::{View, attacks_are_the_views, view_of};
+use linear_view::{View, core_view_size, narrow_view, narrow_views_keep_attacks};
 use std::alloc::{AllocError, Global};
 use tightprove::{Verdict, search};
 use tor_edge::{Files, PutFault, Sink};
@@ -53,19 +55,20 @@ pub fn check<'a, F: Files, O: Sink>(
     }
 }
 
-// An attack that was found, with the view on which it is one.
+// An attack that was found over a narrow view of a core, and how many columns the core has.
 #[derive(Drop)]
 struct Finding {
+    columns: u32,
     view: View,
     attack: Attack,
-    ghost columns: { length attack.derivation.leak ≡ length view.columns },
+    ghost leak: { length attack.derivation.leak ≡ length view.columns },
 }
 
 impl Answer for Finding {
-    ghost text = { λ finding. attack_text finding.view finding.attack };
+    ghost text = { λ finding. attack_text_among finding.columns finding.view finding.attack };
 
     fn write<S: Sink>(&self, sink: &mut S) -> Result<(), PutFault> {
-        write_attack(&self.view, &self.attack, sink)
+        write_attack_among(self.columns, &self.view, &self.attack, sink)
     }
 }
 
@@ -74,26 +77,43 @@ fn attack_on(alloc: Global, core: &Core) -> Result<Option<Finding>, AllocError>
     requires core { IsCore core.now }
     requires within { IsSmall core.now × HasFewColumns core.now }
     ensures { IfOk result (λ found. MatchOption found (¬ HasAttack (core_products core.now))
-        (λ finding. (finding.view ≡ core_view core.now) × IsAttackOfLeak core.now finding.attack)) }
+        (λ finding. IsTextOfAttack core.now (attack_text_among finding.columns finding.view finding.attack))) }
 {
-    attacks_are_the_views();
-    let view = view_of(alloc, core)?;
+    narrow_views_keep_attacks();
+    renaming_keeps_derivations::<u32, u32>();
+    narrow_texts_are_whole();
+    let view = narrow_view(alloc, core)?;
     match search(alloc, &view)? {
         Verdict::Secure => Ok(None),
         Verdict::Leak(leak) => {
+            let columns = column_count(core);
             let attack = attack_of_leak(alloc, &view, leak)?;
-            Ok(Some(Finding { view, attack }))
+            Ok(Some(Finding {
+                columns,
+                view,
+                attack,
+            }))
         }
     }
+}
+
+// How many columns the core has.
+fn column_count(core: &Core) -> u32
+    requires { HasFewColumns core.now }
+    ensures { result ≡ length (core_columns core.now) }
+{
+    core_view_size();
+    let columns = (core.inputs() as usize + core.products() as usize + core.refreshes() as usize)
+        * core.width() as usize;
+    columns as u32
 }
 
 // The attack with this leak: its derivation, and what this unfolds to.
 fn attack_of_leak(alloc: Global, view: &View, leak: BitRow) -> Result<Attack, AllocError>
     requires columns { length leak ≡ length view.now.columns }
     requires leak { IsLeak (products_of view.now) (set_of leak) }
-    ensures { (core : Circuit) → IsCore core → view.now ≡ core_view core → IfOk result (IsAttackOfLeak core) }
+    ensures { IfOk result (IsAttackOver view.now) }
 {
-    attacks_are_the_views();
     unfolding_is_attack::<u32>();
     let Some(derivation) = derive(alloc, view, leak)? else {
         unreachable!()

@@ -1,5 +1,5 @@
 use Rattle.std.proofs.Common.{[], refl, codes}
-use Rattle.attack_text.specs.AttackText.{attack_text}
+use Rattle.attack_text.specs.AttackText.{attack_text_among}
 use Rattle.tornado_main.specs.commands.Check.{secure}
 use Rattle.tornado_main.specs.declared.status.Status.TheVariants.{Done, Found}
 use Rattle.tornado_main.proofs.EndingLemmas.{stopped, no_memory, answered, unsent}
@@ -30,14 +30,14 @@ returns-in-None g c =
 pub returns-in_err-send-in-Some : goal.returns-in_err-send-in-Some
 returns-in_err-send-in-Some g c =
     let finding = some_case _ _ _ _ c.in-Some.found c.in-Some.is c.in_ok-attack_on.ensures in
-    unsent (attack_text c.in-Some.found.view c.in-Some.found.attack) Found c.in_err-send-in-Some.field-0.0 c.from_residual-in_err-send-in-Some.ensures.1
+    unsent (attack_text_among c.in-Some.found.columns c.in-Some.found.view c.in-Some.found.attack) Found c.in_err-send-in-Some.field-0.0 c.from_residual-in_err-send-in-Some.ensures.1
     c.in_ok-core.ensures.fetched
-    (goes_on_with _ _ _ _ _ _ c.in_ok-core.core _ c.in_ok-core.ensures.core (found_verdict c.in_ok-core.core c.in-Some.found.view c.in-Some.found.attack finding.0 finding.1))
+    (goes_on_with _ _ _ _ _ _ c.in_ok-core.core _ c.in_ok-core.ensures.core (found_verdict c.in_ok-core.core _ finding))
     c.in_err-send-in-Some.ensures
 
 pub returns : goal.returns
 returns g c =
     let finding = some_case _ _ _ _ c.in-Some.found c.in-Some.is c.in_ok-attack_on.ensures in
-    answered (attack_text c.in-Some.found.view c.in-Some.found.attack) Found c.in_ok-core.ensures.fetched
-    (goes_on_with _ _ _ _ _ _ c.in_ok-core.core _ c.in_ok-core.ensures.core (found_verdict c.in_ok-core.core c.in-Some.found.view c.in-Some.found.attack finding.0 finding.1))
+    answered (attack_text_among c.in-Some.found.columns c.in-Some.found.view c.in-Some.found.attack) Found c.in_ok-core.ensures.fetched
+    (goes_on_with _ _ _ _ _ _ c.in_ok-core.core _ c.in_ok-core.ensures.core (found_verdict c.in_ok-core.core _ finding))
     c.in_ok-send-in-Some.ensures

@@ -1,6 +1,7 @@
 -- Numbers that bytes begin with.
 use Rattle.std.proofs.Common.{◌≡◌, ℕ, ◌+◌, ◌-◌, ◌*◌, ◌/◌, ◌%◌, ◌^◌, ◌<◌, ◌≤◌, true, leb, List, [], ◌∷◌, ◌++◌, length, get_or, take, drop, sym, ap, ◌∙◌, arith, append_assoc, decimal}
 use Rattle.std.specs.Char.{is_ascii_digit}
+use Rattle.core_text.specs.Parts.{EndsLine}
 use Rattle.std.proofs.lemmas.Bool.{and_parts, leb-true}
 use Rattle.std.proofs.lemmas.Fmt.{decimal_digit, decimal_step}
 use Rattle.std.proofs.lemmas.List.{take_all}
@@ -30,7 +31,8 @@ more_digits value digit more rest some small h e =
     ∙ ap (λ (d : ℕ). decimal value ++ d ∷ []) last in
     sym (ap (λ (ds : List ℕ). ds ++ rest) text ∙ append_assoc (decimal value) (digit ∷ []) rest)
 
--- bytes of which the first is known
-pub front_byte : (bytes : List ℕ) (byte : ℕ) → 1 ≤ length bytes → get_or bytes 0 0 ≡ byte → bytes ≡ byte ∷ take (length bytes - 1) (drop 1 bytes)
-front_byte [] byte some h = absurd (omega arith)
-front_byte (b ∷ bs) byte some h = ap (λ (x : ℕ). x ∷ bs) h ∙ ap (λ (xs : List ℕ). byte ∷ xs) (sym (take_all (length (b ∷ bs) - 1) bs (omega arith)))
+-- after a digit the bytes go on, where they end with LF
+pub digit_inside : (bytes : List ℕ) (at : ℕ) → EndsLine bytes → at < length bytes → is_ascii_digit (get_or bytes at 0) ≡ true → at + 1 < length bytes
+digit_inside bytes at ends within h =
+    let bounds = digit_bounds (get_or bytes at 0) h in
+    grind (arith, bounds)

@@ -1,6 +1,6 @@
 -- What the functions answer of which each reads a part of the text. A register of 2^32 or more is kept as 2^32 - 1: a core with so many
 -- registers is past its limits.
-use Rattle.std.specs.Prelude.{◌≡◌, ℕ, ◌+◌, ◌-◌, ◌^◌, nat_lt, if◌then◌else◌, true, false, List, ◌∷◌, ◌++◌, map, Option, Some, Result, Ok, Err}
+use Rattle.std.specs.Prelude.{◌≡◌, ℕ, ◌+◌, ◌-◌, ◌^◌, nat_lt, if◌then◌else◌, true, false, List, ◌∷◌, ◌++◌, get_or, length, map, Option, Some, Result, Ok, Err}
 use Rattle.core_text.specs.declared.fault.CoreFault.{CoreFault}
 use Rattle.core_text.specs.declared.fault.CoreFault.TheVariants as fault
 use Rattle.core_text.specs.Forms.{is_outputs}
@@ -50,10 +50,19 @@ TakesEquation w n said before after =
     (words : List (List ℕ)) × (before.lines ≡ Some words ∷ after.lines) × (after.number ≡ before.number + 1) × (is_outputs words ≡ false)
     × (Ok said ≡ answer_kept kept_gate (equation_line w n before.number words))
 
+-- equations that make registers n to m - 1 were taken from the lines, and added to the others
+abbrev pub TakesEquations : ℕ → ℕ → ℕ → List Gate → List Gate → LinesLeft → LinesLeft → Type 0
+TakesEquations w n m others all before after =
+    after_equations others (answer_kept kept_body (rest_of w n before)) ≡ after_equations all (answer_kept kept_body (rest_of w m after))
+
 -- the first of the lines is that of the outputs
 abbrev pub AreOutputsDue : LinesLeft → Type 0
 AreOutputsDue left =
     (words : List (List ℕ)) × (others : List (Option (List (List ℕ)))) × (left.lines ≡ Some words ∷ others) × (is_outputs words ≡ true)
+
+-- the last of the bytes is LF
+abbrev pub EndsLine : List ℕ → Type 0
+EndsLine bytes = get_or bytes (length bytes - 1) 0 ≡ 10
 
 -- the answer holds what is wanted, or memory was wanting
 abbrev pub IsAnswer : {X Y : Type 0} → (X → Y) → Result X CoreFault → Result Y CoreFault → Type 0

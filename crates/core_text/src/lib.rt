@@ -7,6 +7,7 @@ mod operand;
 mod plain;
 mod read;
 mod right_side;
+mod scan;
 
 pub use fault::CoreFault;
 pub use read::{core_or_fault, read_core, read_is_written, written_is_read};

@@ -8,7 +8,7 @@ ghost use Rattle.usuba0.specs.CoreText.{core_text};
 
 use crate::fault::CoreFault;
 use crate::line::{equation_line, inputs_line, is_outputs, outputs_line, width_line};
-use crate::plain::plain_line;
+use crate::plain::plain_equations;
 use std::alloc::Global;
 use text_lines::{Lines, Words};
 use usuba0::{Core, Gate, MAX_COLUMNS, Reg};
@@ -71,10 +71,10 @@ fn read_body(
         (answer_kept kept_body (rest_of width inputs lines.old)) }
 {
     let mut equations = Vec::new(alloc);
-    let mut next = u64::from(inputs);
+    let mut next = plain_equations(u64::from(inputs), lines, &mut equations)?;
     while let Some(gate) = next_equation(width, next, lines)? {
         equations.push(gate)?;
-        next += 1;
+        next = plain_equations(next + 1, lines, &mut equations)?;
     }
     let (line, words) = due_line(lines)?;
     let outputs = outputs_line(alloc, next, line, words)?;
@@ -92,9 +92,6 @@ fn next_equation(width: u32, next: u64, lines: &mut Lines<'_>) -> Result<Option<
         (λ gate. TakesEquation width next gate lines.old lines.new))
         (λ fault. answer_kept kept_body (rest_of width next lines.old) ≡ Err fault) }
 {
-    if let Some(gate) = plain_line(next, lines) {
-        return Ok(Some(gate));
-    }
     let mut later = lines.copy();
     let (line, words) = due_line(&mut later)?;
     if is_outputs(words.copy()) {

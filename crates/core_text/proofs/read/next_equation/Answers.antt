@@ -1,4 +1,4 @@
-use Rattle.std.proofs.Common.{◌≡◌, ◌∷◌, Some, Err, true, false, ap, sym, ◌∙◌, arith}
+use Rattle.std.proofs.Common.{◌≡◌, ◌∷◌, Some, Err, true, false, refl, ap, sym, ◌∙◌, arith}
 use Rattle.core_text.specs.Forms.{is_outputs}
 use Rattle.core_text.specs.Parts.{rest_of, answer_kept, kept_body}
 use Rattle.core_text.proofs.BodyLemmas.{line_due, wrong_equation, fault_handed_on}
@@ -7,15 +7,14 @@ use Rattle.core_text.proofs.read.next_equation.Goals as goal
 
 pub returns-then-is_outputs : goal.returns-then-is_outputs
 returns-then-is_outputs c =
-    let kept : c.plain_line.new.lines ≡ c.args.lines.now = c.in_default.ensures in
     let first : c.args.lines.now.lines ≡ Some c.in_ok-line.words ∷ c.due_line.new.lines.lines =
-    sym (ap (λ (left : LinesLeft). left.lines) (c.copy-later.ensures ∙ kept)) ∙ c.in_ok-line.ensures.1 in
+    sym (ap (λ (left : LinesLeft). left.lines) c.copy-later.ensures) ∙ c.in_ok-line.ensures.1 in
     let last : is_outputs c.in_ok-line.words ≡ true = grind arith in
-    (kept, (c.in_ok-line.words, c.due_line.new.lines.lines, first, last))
+    (refl, (c.in_ok-line.words, c.due_line.new.lines.lines, first, last))
 
 pub returns-in_err-gate : goal.returns-in_err-gate
 returns-in_err-gate c =
-    let same : c.copy-later.result ≡ c.args.lines.now = c.copy-later.ensures ∙ c.in_default.ensures in
+    let same : c.copy-later.result ≡ c.args.lines.now = c.copy-later.ensures in
     let other : is_outputs c.in_ok-line.words ≡ false = grind arith in
     let told : answer_kept kept_body (rest_of c.args.width c.args.next c.args.lines.now) ≡ Err c.in_err-gate.field-0.0 =
     ap (λ (left : LinesLeft). answer_kept kept_body (rest_of c.args.width c.args.next left)) (sym same)

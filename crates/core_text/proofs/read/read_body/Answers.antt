@@ -21,8 +21,9 @@ loop-equations-preserved c =
       so_far =
           c.loop-equations.invariant.so_far
           ∙ one_taken c.args.width c.loop-equations.next c.in-Some.gate c.loop-equations.lines c.next_equation.new.lines c.loop-equations.equations.items c.push.new.self.items taken
-          c.in_ok-push.ensures.items;
-      room = omega (arith, c.loop-equations.invariant.room, longer);
+          c.in_ok-push.ensures.items
+          ∙ c.in_ok-next-2.ensures.taken c.args.width c.requires.width;
+      room = omega (arith, c.loop-equations.invariant.room, longer, c.in_ok-next-2.ensures.fewer.1);
     }
 
 taken_outputs : (c : In_ok-line) → (is_outputs c.in_ok-line.words ≡ true)
